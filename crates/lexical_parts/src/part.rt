@@ -46,12 +46,11 @@ pub trait Part: Copy {
     ghost is_utf8: { Self → Type 0 } = { λ _. ⊤ };
 
     /// Returns a number of bytes that is enough for the text, or `usize::MAX` if that number does not fit in a `usize`.
-    /// The part must be valid: for a `Padded` or a `PaddedDigits` that is not, it returns the width.
+    /// The part must be valid.
     ///
     /// # Panics
     ///
-    /// If the radix of a `Digits` is not from 2 to 36, or if a `Fixed`, a `GroupedFixed` or a `TrimmedFixed` has more
-    /// than 19 decimals.
+    /// If the part is not valid, for [some parts](crate::conditions#valid-parts).
     fn room(self) -> usize
         requires { is_valid self }
         ensures { result ≡ min (room self) usize.MAX };
@@ -69,14 +68,12 @@ pub trait Part: Copy {
         ensures at_most { result ≤ room self }
         ensures utf8 { is_utf8 self → AreUtf8 (is_text self) };
 
-    /// Returns the length of the text, if the part knows it without writing the text, and otherwise `None`, as it does
-    /// if you do not define this method. The part must be valid: for a `Padded` or a `PaddedDigits` that is not, it
-    /// returns the width.
+    /// Returns the length of the text, if the part knows it without writing the text, and otherwise `None`. The default
+    /// returns `None`. The part must be valid.
     ///
     /// # Panics
     ///
-    /// If the radix of a `Digits` is not from 2 to 36, or if a `Fixed`, a `GroupedFixed` or a `TrimmedFixed` has more
-    /// than 19 decimals.
+    /// If the part is not valid, for [some parts](crate::conditions#valid-parts).
     fn text_len(self) -> Option<usize>
         requires { is_valid self }
         ensures { IfSome result (λ count. HasLength (is_text self) count) }

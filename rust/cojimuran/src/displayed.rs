@@ -21,8 +21,8 @@ use core::fmt::{self, Display, Write};
 /// The value is formatted once to write it, and once more each time that a call asks for its [`room`](Part::room) or
 /// its length, as `try_to_str` does. It must write the same text each time.
 ///
-/// A text can be long: `{}` of `1e300` has 301 bytes. So take [`room`](Part::room) bytes, `write_pieces`, or a format
-/// with a limit such as `{:.3e}`.
+/// A `u128` has at most 39 bytes and an `i128` at most 40. Other texts can be long: `{}` of `1e300` has 301 bytes. So take
+/// [`room`](Part::room) bytes, `write_pieces`, or a format with a limit such as `{:.3e}`.
 ///
 /// This part is not proved: what it writes is what the `Display` of the value does. If that `Display` returns an error,
 /// `write_pieces` and `{}` return it, unless the part is in a column, a `ZeroPadded` or a `Lower`, or in a `Shown` with

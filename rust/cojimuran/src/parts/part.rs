@@ -30,12 +30,11 @@ use core::str::{from_utf8, from_utf8_unchecked};
 )]
 pub trait Part: Copy {
     /// Returns a number of bytes that is enough for the text, or `usize::MAX` if that number does not fit in a `usize`.
-    /// The part must be valid: for a `Padded` or a `PaddedDigits` that is not, it returns the width.
+    /// The part must be valid.
     ///
     /// # Panics
     ///
-    /// If the radix of a `Digits` is not from 2 to 36, or if a `Fixed`, a `GroupedFixed` or a `TrimmedFixed` has more
-    /// than 19 decimals.
+    /// If the part is not valid, for [some parts](crate::conditions#valid-parts).
     #[must_use]
     fn room(self) -> usize;
 
@@ -47,14 +46,12 @@ pub trait Part: Copy {
     /// If the part is not valid, or if the buffer is [too short](crate::conditions).
     fn write_to(self, buffer: &mut [u8]) -> usize;
 
-    /// Returns the length of the text, if the part knows it without writing the text, and otherwise `None`, as it does
-    /// if you do not define this method. The part must be valid: for a `Padded` or a `PaddedDigits` that is not, it
-    /// returns the width.
+    /// Returns the length of the text, if the part knows it without writing the text, and otherwise `None`. The default
+    /// returns `None`. The part must be valid.
     ///
     /// # Panics
     ///
-    /// If the radix of a `Digits` is not from 2 to 36, or if a `Fixed`, a `GroupedFixed` or a `TrimmedFixed` has more
-    /// than 19 decimals.
+    /// If the part is not valid, for [some parts](crate::conditions#valid-parts).
     #[must_use]
     #[inline]
     fn text_len(self) -> Option<usize> {

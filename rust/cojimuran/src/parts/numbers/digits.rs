@@ -13,8 +13,7 @@ use crate::write_integer::radix::Radix;
 /// `A` to `Z`; `Lower(Digits(16, 255u32))` writes `ff`. With another radix the part is not valid.
 ///
 /// The radix comes first, and the number is unsigned. A literal needs a type, because an `i32` is signed:
-/// `Digits(36, 1000u64)`. If an error says that `i32: UnsignedInteger` or `i32: Radix` is not satisfied, the number is
-/// signed: write it by `Formatted`. The room is the number of digits.
+/// `Digits(36, 1000u64)`. A signed number in a radix is written by `Formatted`. The room is the number of digits.
 ///
 /// If you name the radix as a constant, your program has only the code of that radix. With `{}`, `append_to` and [a few
 /// other calls](crate::costs#the-code-of-all-radices) rustc may include the code of every radix, which is 60 KB or more.

@@ -15,8 +15,7 @@ use core::fmt;
 /// The digits of an unsigned number in radix 16, without a prefix: `Hex(255u32)` writes `FF`. Its room
 /// is that of its type: 2 bytes for a `u8`, and 16 for a `u64`.
 ///
-/// A literal needs a type, because an `i32` is signed: `Hex(255u8)`. If an error says that `i32: UnsignedInteger` or
-/// `i32: Radix` is not satisfied, the number is signed: write it by `Formatted`.
+/// A literal needs a type, because an `i32` is signed: `Hex(255u8)`. A signed number in a radix is written by `Formatted`.
 ///
 /// ```
 /// use cojimuran::{Hex, Part};
