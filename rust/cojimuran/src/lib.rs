@@ -101,8 +101,8 @@
 //! assert_eq!(format!("{:03}|{:>3}", Shown(5u8), Shown(5u8)), "5  |  5");
 //! ```
 //!
-//! `{}` of a part that is [not valid](conditions#valid-parts) returns an error, so `format!` and `println!` panic. By the
-//! convention of the standard library a `Display` fails only if its formatter does.
+//! `{}` of a part that is [not valid](conditions#valid-parts) returns an error, so `format!` and `println!` panic. This
+//! breaks the convention that a `Display` fails only if its formatter does.
 //!
 //! # A part of your own
 //!

@@ -74,6 +74,8 @@ fn from_format() {
     assert_eq!(Lower(Hex(number)).to_str(&mut buffer), format!("{number:x}"));
     assert_eq!(("0x", Lower(Hex(number))).to_str(&mut buffer), format!("{number:#x}"));
     assert_eq!(Fixed(cents, 2).to_str(&mut buffer), format!("{}.{:02}", cents / 100, cents % 100));
+    let number = -1i32;
+    assert_eq!(Hex(number as u32).to_str(&mut buffer), format!("{number:X}"));
 }
 
 const THOUSANDS: NumberFormat = NumberFormatBuilder::new().digit_grouping(3, b',').build_strict();
@@ -84,6 +86,8 @@ fn from_num_format_and_radix_fmt() {
     assert_eq!(Formatted(number, &THOUSANDS).to_str(&mut buffer), "1,234,567");
     assert_eq!(Digits(36, number).to_str(&mut buffer), "QGLJ");
     assert_eq!(Lower(Digits(36, number)).to_str(&mut buffer), "qglj");
+    let number = -1i64;
+    assert_eq!(Lower(Digits(36, number as u64)).to_str(&mut buffer), "3w5e11264sgsf");
 }
 
 /// Writes the same line in two ways.
