@@ -51,8 +51,8 @@
  * outside the buffer, and keeps no pointer to it. Bytes after the text keep their values.
  *
  * Size of the buffer. LEXICAL_BUFFER_SIZE bytes are enough for every number of every
- * type in every format. A terminating NUL needs one byte more. A call is fastest if the
- * buffer is long enough for every number of the type.
+ * type in every format. A terminating NUL needs one byte more. A call is fastest with a
+ * buffer of lexical_buffer_size_T(format) bytes, even if fewer are enough.
  *
  * Errors. A call that writes returns the length of the text, without a NUL. A text is never
  * empty, so 0 means an error: the format is invalid or the text does not fit. The buffer is
@@ -146,7 +146,7 @@ LEXICAL_HAS((nothrow, const)) uint32_t lexical_version(void) LEXICAL_NOEXCEPT;
 /* ---- decimal numbers ----------------------------------------------------- */
 
 /*
- * A buffer size that is enough for every text of lexical_decimal_T, without a NUL. For a
+ * A buffer size that is enough for every result of lexical_decimal_T, without a NUL. For a
  * format with groups or a '+' use LEXICAL_BUFFER_SIZE_U32 and so on, or at run time
  * lexical_buffer_size_T.
  */
@@ -205,9 +205,9 @@ size_t lexical_decimal_i64(int64_t value, char *buffer, size_t size) LEXICAL_NOE
  * In C89, and in C++ before C++20, write the fields in their order, { 10, 0, 3, ',' }, or
  * set the fields of a variable.
  *
- * From C++14 on, each field after the radix has the default value 0. So the struct is not
- * trivial: clear one by `format = {}`, because g++ warns of memset, and give a union with
- * such a member an initializer.
+ * From C++14 on, each field after the radix has the default value 0. So the struct has no
+ * trivial constructor. Clear one by `format = {}`, because g++ warns of memset. A union
+ * with such a member needs an initializer.
  */
 struct lexical_format {
     /* From 2 to 36. */
@@ -236,6 +236,7 @@ struct lexical_format {
  * In C++ it is the format itself, because a pointer to a temporary object could outlive
  * the object. So only lexical_write and lexical_length take it. C++20 has the names of
  * fields. In C++11 to C++17 write the fields in their order: LEXICAL_FORMAT(10, 0, 3, ',').
+ * A field that is a variable must be a uint32_t, because C++ refuses to narrow an int.
  *
  * C89 and C++98 do not have this macro. It does not check the radix when you compile, as
  * LEXICAL_RADIX does.
@@ -433,9 +434,9 @@ size_t lexical_write_i64(int64_t value, const struct lexical_format *format,
  * 0, the buffer is unchanged. So you can pass the result of another call as `count`, even
  * if it is 0.
  *
- * lexical_pad knows no prefix: padded to 8 bytes, 0xFF becomes 00000xFF. So pad only the
- * digits: pass `buffer + 2` and `size - 2`, and then add 2 to the count. The zeros are not
- * grouped: 1,234,567 padded to 12 bytes is 0001,234,567.
+ * lexical_pad recognizes no prefix: padded to 8 bytes, 0xFF becomes 00000xFF. So pad only
+ * the digits: pass `buffer + 2` and `size - 2`, and then add 2 to the count. The zeros are
+ * not grouped: 1,234,567 padded to 12 bytes is 0001,234,567.
  *
  * If `width` is greater than `size`, lexical_pad returns 0, although the text without
  * zeros is in the buffer. To keep that text, save its length: lexical_terminate with that 0
