@@ -140,8 +140,12 @@ fn documented() -> Vec<(String, String)> {
                     continue;
                 }
                 let comment = after.lines().map_while(|line| line.trim_start().strip_prefix("///")).collect::<String>();
-                let sentence =
-                    comment.split('.').next().unwrap().replace("[too short](crate::conditions)", "too short");
+                let sentence = comment
+                    .split('.')
+                    .next()
+                    .unwrap()
+                    .replace("[too short](crate::conditions)", "too short")
+                    .replace("[some parts](crate::conditions#valid-parts)", "some parts");
                 let conditions = sentence.trim().strip_prefix("If ").unwrap().split(", or if ");
                 found.extend(conditions.map(|condition| (name.to_owned(), condition.to_owned())));
             }
@@ -243,9 +247,9 @@ fn messages(called: &mut Vec<Panicking>) {
             builder.digit_grouping(3, b'0').build_strict();
         "the part is not valid", "20 decimals, but at most 19": Fixed(7i64, 20).to_text(buffer),
             TrimmedFixed(7u8, 20).write_to(buffer), Fixed(7u8, 20).write_pieces(&mut String::new());
-        "the radix of a `Digits` is not from 2 to 36", "radix": Digits(37, 7u8).room(), Digits(1, 7u8).text_len();
-        "a `Fixed`, a `GroupedFixed` or a `TrimmedFixed` has more than 19 decimals", "20 decimals, but at most 19":
-            Fixed(7u8, 20).room(), TrimmedFixed(7u8, 20).room(), Fixed(7u8, 20).text_len();
+        "the part is not valid, for some parts", "radix": Digits(37, 7u8).room(), Digits(1, 7u8).text_len();
+        "the part is not valid, for some parts", "20 decimals, but at most 19": Fixed(7u8, 20).room(),
+            TrimmedFixed(7u8, 20).room(), Fixed(7u8, 20).text_len();
         "the part is not valid", "90 decimals, but at most 19": Fixed(7u8, 90).to_str(buffer),
             Fixed(7u8, 90).try_write_to(buffer), Fixed(7u8, 90).write_to(buffer), Fixed(7u8, 90).write_at(1, buffer);
         "the part is not valid", "the number has more digits than the width": Padded(2026u16, 2).to_text(buffer),
