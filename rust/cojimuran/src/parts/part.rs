@@ -10,7 +10,7 @@ use core::str::{from_utf8, from_utf8_unchecked};
 /// text consists of the texts of its elements, in order: `(250, " g")` writes `250 g`.
 ///
 /// A longer tuple has tuples in it: `((a, b), (c, d))` writes what `(a, b, c, d)` writes. A tuple of one element,
-/// `(part,)`, is not a part. For a `String` write `string.as_str()`, or, in Rust with the feature `alloc`, `&string`. A
+/// `(part,)`, is not a part. For a `String` write `string.as_str()`, or, with the Cargo feature `alloc`, `&string`. A
 /// literal needs a type where the part takes unsigned numbers only: `Hex(255u8)` and `Digits(36, 1000u32)`,
 /// and not `Hex(255)`.
 ///
@@ -101,10 +101,10 @@ pub trait Part: Copy {
         index + self.write_to(&mut buffer[index..])
     }
 
-    /// If the buffer has `room` bytes or more, or the room is at most 256 bytes and the text fits in the buffer, writes
-    /// the text to its start, and returns the length of the text; every byte after the text is unchanged.
-    /// Otherwise returns `None`, and the buffer is unchanged. Only the room and the length are tested: the part must be
-    /// valid.
+    /// Writes the text to the start of the buffer if it fits, and returns its length; every byte after the text is
+    /// unchanged. If it does not fit, returns `None`, and the buffer is unchanged. If the room is above 256 bytes,
+    /// returns `None` for each buffer that is shorter than the room, even if the text fits. Only lengths are tested: the
+    /// part must be valid.
     ///
     /// # Panics
     ///
