@@ -205,9 +205,9 @@ size_t lexical_decimal_i64(int64_t value, char *buffer, size_t size) LEXICAL_NOE
  * In C89, and in C++ before C++20, write the fields in their order, { 10, 0, 3, ',' }, or
  * set the fields of a variable.
  *
- * From C++14 on, each field after the radix has the default value 0. So the struct has no
- * trivial constructor. Clear one by `format = {}`, because g++ warns of memset. A union
- * with such a member needs an initializer.
+ * From C++14 on, each field after the radix has the default value 0, so the struct has no
+ * trivial default constructor. To clear a format write `format = {}`, because g++ warns of
+ * memset. A variable of a union that has a format as a member needs an initializer.
  */
 struct lexical_format {
     /* From 2 to 36. */
@@ -236,7 +236,8 @@ struct lexical_format {
  * In C++ it is the format itself, because a pointer to a temporary object could outlive
  * the object. So only lexical_write and lexical_length take it. C++20 has the names of
  * fields. In C++11 to C++17 write the fields in their order: LEXICAL_FORMAT(10, 0, 3, ',').
- * A field that is a variable must be a uint32_t, because C++ refuses to narrow an int.
+ * A field that is a variable should be a uint32_t: an int would be narrowed, which clang
+ * refuses and g++ warns of.
  *
  * C89 and C++98 do not have this macro. It does not check the radix when you compile, as
  * LEXICAL_RADIX does.
