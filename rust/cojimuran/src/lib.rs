@@ -57,8 +57,9 @@
 //!
 //! # What allocates
 //!
-//! No call allocates by itself. `append_to` and `write_pieces` may grow their target, `append_to` of a `String` may need a
-//! temporary buffer, and a [`Displayed`] allocates if its `Display` does.
+//! Without the feature `alloc` no code of this crate allocates. `append_to` grows its target, and for a `String` it
+//! allocates a temporary buffer if the room is above 256 bytes. `write_pieces` allocates if its writer does, and a
+//! [`Displayed`] if its `Display` does.
 //!
 //! # A `String`, a `Vec`, a format string
 //!
@@ -117,8 +118,11 @@
 //! | rustc says | write |
 //! |---|---|
 //! | `i32` is not an unsigned integer type, or `to_str` exists for `Hex<i32>`, but its trait bounds were not satisfied | an unsigned number, such as `Hex(255u8)`, or for a negative number in a radix `Formatted(number, &FORMAT)` |
-//! | `(f64, u8)` is not a part | `Displayed(&value)` for the member that is not a part, or nested tuples if there are more than 12 members |
+//! | `(f64, u8)` is not a part, or `to_str` exists for `(u128, &str)`, but its trait bounds were not satisfied | `Displayed(&value)` for the member that is not a part, or nested tuples if there are more than 12 members |
 //! | `(String, u8)` is not a part, or `to_str` exists for `(&str, &String)`, but its trait bounds were not satisfied | `string.as_str()`, or, with the feature `alloc`, `&string` |
+//! | `to_str` exists for `Joined<'_, String>`, but its trait bounds were not satisfied | a list of `&str`: `Joined(&strings.iter().map(String::as_str).collect::<Vec<_>>(), ",")` |
+//! | `(u8, Option<String>)` is not a part | `option.as_deref()` |
+//! | cannot borrow `buffer` as mutable more than once | a buffer for each text that you keep |
 //! | no method named `write_pieces` | `use cojimuran::Show` |
 //! | no method named `append_to`, or unresolved import `cojimuran::Append` | `use cojimuran::Append`, and the feature `alloc` |
 //! | `(&str, u8)` doesn't implement `Display` | `Shown((..))` |
