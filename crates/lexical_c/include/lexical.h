@@ -51,8 +51,8 @@
  * outside the buffer, and keeps no pointer to it. Bytes after the text keep their values.
  *
  * Size of the buffer. LEXICAL_BUFFER_SIZE bytes are enough for every number of every
- * type in every format. A terminating NUL needs one byte more. A call is fastest with a
- * buffer of lexical_buffer_size_T(format) bytes, even if fewer are enough.
+ * type in every format. A terminating NUL needs one byte more. A call is slower if the
+ * buffer has fewer than lexical_buffer_size_T(format) bytes, even if the text fits.
  *
  * Errors. A call that writes returns the length of the text, without a NUL. A text is never
  * empty, so 0 means an error: the format is invalid or the text does not fit. The buffer is

@@ -129,7 +129,8 @@
 //!
 //! # What is written is read back
 //!
-//! `parse` and `from_str_radix` of the standard library read each number back from its text without groups:
+//! `parse` of the standard library reads a decimal number back, and `from_str_radix` one in another radix. They do not
+//! read groups, a decimal point or an exponent:
 //!
 //! ```
 //! use cojimuran::{Digits, Part};
