@@ -16,7 +16,7 @@ use crate::request::line::Line;
 use std::io;
 
 /// Answers lines whose bytes arrive in chunks. The answer to a line is the text of the number that the
-/// line requests, or `bad line` and the number of the line; the documentation of `run` has the details.
+/// line requests, or `bad line` and the number of the line; the documentation of `lexical_lines::run` has the details.
 /// An answerer writes the answer to a sink as soon as it gets the newline that ends the line.
 ///
 /// An answerer keeps the line that has not ended yet, the number of that line, and whether all lines

@@ -161,8 +161,8 @@ pub(crate) fn radix_inlined<T: UnsignedInteger>(
     by_radix!(radix, write_by_table or write_long_out_of_line::<T>(value, buffer, turns))
 }
 
-// Writes the digits as `radix_inlined` does, but unless they are one or two, by a call in each radix. So a caller whose
-// radix is constant has little code.
+// Writes the digits as `radix_inlined` does, but by a call. Only one or two digits in a radix that is no power of 2 are
+// written in the caller. So a caller whose radix is constant has little code.
 fn radix_called<T: UnsignedInteger>(
     value: T,
     radix: u32,
@@ -193,7 +193,7 @@ pub fn constant_radix<T: UnsignedInteger>(value: T, radix: u32, buffer: &mut [u8
     radix_inlined(value, radix, buffer, &mut Turns::new())
 }
 
-/// An unsigned integer type whose digits are written in every radix by the table writer.
+/// An unsigned integer type whose digits are written in every radix.
 pub trait Radix: UnsignedInteger {
     /// Writes the digits of the number to the start of the buffer, and returns how many there are. The
     /// radix must be from 2 to 36, and the buffer must have room for the digits.

@@ -199,7 +199,8 @@ pub trait ToLexicalWithOptions: ToLexical {
     }
 }
 
-// Returns the character of the sign: `-` for a negative number, and `+` for another one if it is required.
+// Returns the character of the sign: `-` for a negative number, and `+` for another one if it is required. For a number
+// without a sign it is any character.
 fn sign_character(is_negative: bool, is_required: bool) -> u8
     ensures minus { IsTrue is_negative → result ≡ 45 }
     ensures plus { ¬ (IsTrue is_negative) → IsTrue is_required → result ≡ 43 }

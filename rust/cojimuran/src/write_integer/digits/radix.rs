@@ -102,8 +102,8 @@ pub(crate) fn radix_inlined<T: UnsignedInteger>(value: T, radix: u32, buffer: &m
     by_radix!(radix, write_by_table or write_long_out_of_line::<T>(value, buffer))
 }
 
-// Writes the digits as `radix_inlined` does, but unless they are one or two, by a call in each radix. So a caller whose
-// radix is constant has little code.
+// Writes the digits as `radix_inlined` does, but by a call. Only one or two digits in a radix that is no power of 2 are
+// written in the caller. So a caller whose radix is constant has little code.
 #[inline(always)]
 #[track_caller]
 fn radix_called<T: UnsignedInteger>(value: T, radix: u32, buffer: &mut [u8]) -> usize {
@@ -122,7 +122,7 @@ pub fn constant_radix<T: UnsignedInteger>(value: T, radix: u32, buffer: &mut [u8
     radix_inlined(value, radix, buffer)
 }
 
-/// An unsigned integer type whose digits are written in every radix by the table writer.
+/// An unsigned integer type whose digits are written in every radix.
 #[diagnostic::on_unimplemented(
     message = "`{Self}` is not an unsigned integer type that this crate writes",
     note = "a literal needs a type, such as `255u8`; a signed number in a radix is written by `Formatted`"

@@ -169,7 +169,8 @@ pub trait ToLexicalWithOptions: ToLexical {
     }
 }
 
-// Returns the character of the sign: `-` for a negative number, and `+` for another one if it is required.
+// Returns the character of the sign: `-` for a negative number, and `+` for another one if it is required. For a number
+// without a sign it is any character.
 #[inline(always)]
 #[track_caller]
 fn sign_character(is_negative: bool, is_required: bool) -> u8 {
