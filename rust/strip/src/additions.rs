@@ -1,5 +1,5 @@
 //! Adds attributes of functions and types. Without `#[inline]` rustc would inline few functions of a package into
-//! another one. Leaves out the clauses, after a check that the documentation says when the function panics.
+//! another one. Checks that the documentation says when a function panics.
 
 use crate::items::{Function, functions, start};
 use crate::repository::File;
@@ -7,10 +7,9 @@ use crate::tokens::{Token, closing, find, words};
 use std::ops::Range;
 
 /// Adds them to all functions and types of a file.
-pub(crate) fn add(tokens: &mut Vec<Token>, file: &File, pages: &str) -> Result<(), String> {
+pub(crate) fn add(tokens: &mut [Token], file: &File, pages: &str) -> Result<(), String> {
     let traits = traits(tokens);
-    // From the last one: so the places of the others stay as they are.
-    for function in functions(tokens).into_iter().rev() {
+    for function in functions(tokens) {
         let is_in_trait = traits.iter().any(|each| each.contains(&function.at));
         let mut lines = inlining(tokens, &function, file).to_owned();
         if file.source.is_documented() && (is_in_trait || function.is_public(tokens)) {
@@ -20,9 +19,6 @@ pub(crate) fn add(tokens: &mut Vec<Token>, file: &File, pages: &str) -> Result<(
             }
         }
         insert_lines(&mut tokens[function.visibility], &lines);
-        for clause in function.clauses.into_iter().rev() {
-            tokens.drain(clause);
-        }
     }
     for at in 0..tokens.len() {
         if tokens[at].is_in(&["struct", "enum", "trait"]) {

@@ -1,8 +1,10 @@
 //! Leaves out items that only Rattle reads: what is marked as ghost, tactics, models, laws, and modules of them; then
-//! imports of what is gone. At the end it checks that nothing of Rattle is left.
+//! contracts, and imports of what is gone. At the end it checks that nothing of Rattle is left.
 
 use crate::counters::COUNTERS;
-use crate::items::{function, remove, remove_and_keep_comment, remove_element, start, start_with_attributes};
+use crate::items::{
+    function, functions, remove, remove_and_keep_comment, remove_element, start, start_with_attributes,
+};
 use crate::repository::File;
 use crate::tokens::{Token, closing, find, words};
 use std::collections::BTreeSet;
@@ -14,7 +16,7 @@ pub(crate) type Names = BTreeSet<String>;
 /// What only Rattle has.
 const OF_RATTLE: [&str; 7] = ["requires", "ensures", "tactic", "prove", "final", "Model", "Drop"];
 
-/// Leaves out the items, with the modules of these names. The clauses of a function stay until they have been read.
+/// Leaves out the items, with the modules of these names. Contracts stay until they have been read.
 pub(crate) fn without_items(tokens: &mut Vec<Token>, modules: &[&str], laws: &Names) {
     let mut at = 0;
     while at < tokens.len() {
@@ -28,6 +30,15 @@ pub(crate) fn without_items(tokens: &mut Vec<Token>, modules: &[&str], laws: &Na
         } else {
             at += 1;
         }
+    }
+}
+
+/// Leaves out the clauses of all functions.
+pub(crate) fn without_contracts(tokens: &mut Vec<Token>) {
+    // From the last one: so the places of the others stay as they are.
+    let clauses: Vec<_> = functions(tokens).into_iter().flat_map(|function| function.clauses).collect();
+    for clause in clauses.into_iter().rev() {
+        tokens.drain(clause);
     }
 }
 

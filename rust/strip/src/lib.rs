@@ -4,12 +4,12 @@
 //! so a comment goes to the package as it is, or is left out with what it stands at. `tokens` reads and prints,
 //! `items` finds functions and their parts, and `repository` reads all crates. These are the steps:
 //!
-//! 1. `rules` writes what `replacements` lists otherwise, for example `prove!` as `assert!`.
+//! 1. When a file is read, `rules` writes what `replacements` lists otherwise, for example `prove!` as `assert!`.
 //! 2. `left_out` leaves out items that only the prover reads, such as ghost items, laws, models and tactics.
 //! 3. `counters` leaves out counters with all that passes them on, and calls of laws.
 //! 4. `additions` writes attributes that a package needs and the crate does not have: `#[inline]` and `#[must_use]`. It
-//!    leaves out the contracts, after a check that the documentation says when a function panics.
-//! 5. `left_out` leaves out imports of what is gone, and refuses each word of Rattle that is left.
+//!    checks that the documentation says when a function panics.
+//! 5. `left_out` leaves out contracts and imports of what is gone, and refuses each word of Rattle that is left.
 //!
 //! `sources` lists the crates, what is made of each, and the functions that the steps need to know, such as laws. What
 //! no step knows is an error with the file and the line. A rule or a listed name that is for nothing is an error too.
@@ -42,18 +42,18 @@ const MADE: &str = "// Made by `strip` from ";
 
 /// Writes all made files of the repository in a folder, and removes those of sources that are gone.
 pub fn make(top: &Path) -> Result<(), String> {
-    let made = made(top)?;
-    stale(top, &made)?.iter().try_for_each(|path| remove(&top.join(path)))?;
-    made.into_iter().try_for_each(|(path, text)| write(&top.join(path), &text))
+    let files = committed_files(top)?;
+    stale(top, &files)?.iter().try_for_each(|path| remove(&top.join(path)))?;
+    files.into_iter().try_for_each(|(path, text)| write(&top.join(path), &text))
 }
 
 /// Returns an error that names each made file that is not what would be made now, and its first line that differs. What
 /// only another version of rustfmt would lay out otherwise is no difference.
 pub fn check(top: &Path) -> Result<(), String> {
-    let made = made(top)?;
+    let files = committed_files(top)?;
     let is_gone = |path: PathBuf| format!("{}: its source is gone", path.display());
-    let mut wrong: Vec<String> = stale(top, &made)?.into_iter().map(is_gone).collect();
-    for (path, text) in made {
+    let mut wrong: Vec<String> = stale(top, &files)?.into_iter().map(is_gone).collect();
+    for (path, text) in files {
         let there = read(&top.join(&path)).unwrap_or_default();
         if without_layout(&there) != without_layout(&text) {
             let same = there.lines().zip(text.lines()).take_while(|(a, b)| a == b).count();
@@ -67,7 +67,7 @@ pub fn check(top: &Path) -> Result<(), String> {
 /// of a root is a file of its own, because a file that is included cannot have that of the one that includes it.
 pub fn make_built(top: &Path, package: &str, folder: &Path) -> Result<(), String> {
     let repository = Repository::read(top, SOURCES, Rule::all())?;
-    for (path, text) in made_of(&repository, |source| source.package == package)? {
+    for (path, text) in files_of_sources(&repository, |source| source.package == package)? {
         let (file, is_root) = (folder.join(&path), path.ends_with("lib.rs"));
         let is_documentation = |line: &&str| is_root && line.starts_with("//!");
         let (documentation, code): (Vec<&str>, Vec<&str>) = text.lines().partition(is_documentation);
@@ -82,10 +82,10 @@ pub fn make_built(top: &Path, package: &str, folder: &Path) -> Result<(), String
     Ok(())
 }
 
-/// Returns each committed file that is made of the repository in this folder.
-fn made(top: &Path) -> Result<Files, String> {
-    let made = made_of(&Repository::read(top, SOURCES, Rule::all())?, Source::is_committed)?;
-    made.into_iter().map(|(path, text)| Ok((path, laid_out(&text, top)?))).collect()
+/// Returns each file that is made of the repository in this folder and is committed.
+fn committed_files(top: &Path) -> Result<Files, String> {
+    let files = files_of_sources(&Repository::read(top, SOURCES, Rule::all())?, Source::is_committed)?;
+    files.into_iter().map(|(path, text)| Ok((path, laid_out(&text, top)?))).collect()
 }
 
 /// Returns the made files that are there, although their sources are gone.
@@ -97,16 +97,16 @@ fn stale(top: &Path, made: &Files) -> Result<Vec<PathBuf>, String> {
 }
 
 /// Returns each file that is made of some sources. Its first line says what it is made of.
-fn made_of(repository: &Repository, is_source: impl Fn(&Source) -> bool) -> Result<Files, String> {
-    let mut made = Files::new();
+fn files_of_sources(repository: &Repository, is_source: impl Fn(&Source) -> bool) -> Result<Files, String> {
+    let mut files = Files::new();
     for file in repository.files.iter().filter(|file| is_source(file.source)) {
         if let Some(path) = file.source.path_of_made(&file.name) {
             let from = file.path().display().to_string();
             let code = translated(file, repository).map_err(|what| format!("{from}:{what}"))?;
-            made.insert(path, format!("{MADE}{from}. Edit that file, not this one.\n\n{code}"));
+            files.insert(path, format!("{MADE}{from}. Edit that file, not this one.\n\n{code}"));
         }
     }
-    Ok(made)
+    Ok(files)
 }
 
 /// Returns the code that is made of a file, to whose tokens the rules are applied. An error begins with the line.
@@ -116,6 +116,7 @@ fn translated(file: &File, Repository { laws, pages, .. }: &Repository) -> Resul
     counters::without_counters(&mut code, laws);
     counters::without_counted(&mut code);
     additions::add(&mut code, file, pages)?;
+    left_out::without_contracts(&mut code);
     left_out::without_imports(&mut code, file, laws);
     left_out::check_rust(&code, laws)?;
     Ok(tokens::print(&code).trim().to_owned() + "\n")
