@@ -32,8 +32,9 @@ last_digits count n = map to_ascii_lowercase (padded_text 16 count n)
 
 -- the last k + 2 digits of n in radix 16, in lowercase, are the last k digits of n / 16 / 16, and then the last digit
 -- of n / 16 and that of n
-without_two : (k n : ℕ) → last_digits (suc (suc k)) n ≡ last_digits k (n / 16 / 16) ++ last_of (n / 16) ∷ last_of n ∷ []
-without_two k n = rw (map-append, map-append, append_assoc) refl
+last_digits-two_more : (k n : ℕ)
+    → last_digits (suc (suc k)) n ≡ last_digits k (n / 16 / 16) ++ last_of (n / 16) ∷ last_of n ∷ []
+last_digits-two_more k n = rw (map-append, map-append, append_assoc) refl
 
 -- two bytes that are written one after the other
 pair_of : (x y : ℕ) (pair : List ℕ) → length pair ≡ 2 → set (set pair 0 y) 1 x ≡ y ∷ x ∷ []
@@ -77,7 +78,7 @@ last_two_digits {x} {y} {before} number text more is_y is_x is =
     let place : length text ≡ suc (suc (length text - 2)) = omega arith in
     let hundreds : number / 256 ≡ number / 16 / 16 = omega arith in
     let split : last_digits (length text) number ≡ last_digits (length text - 2) (number / 256) ++ y ∷ x ∷ [] =
-    ap (λ count. last_digits count number) place ∙ without_two (length text - 2) number
+    ap (λ count. last_digits count number) place ∙ last_digits-two_more (length text - 2) number
     ∙ rw (hundreds, is_y, is_x) refl in
     ap (λ bytes. before ++ bytes) (written_two text y x more)
     ∙ ap (λ bytes. bytes ++ y ∷ x ∷ []) (is ∙ ap (λ count. last_digits count (number / 256))

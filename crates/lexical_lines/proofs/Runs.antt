@@ -38,10 +38,10 @@ IsAnswer-counted : (i line_number : ℕ) (line answer : List ℕ) → line_numbe
 IsAnswer-counted i line_number line answer e is = grind arith
 
 -- a run that broke off after some bytes also broke off after others that have the same lines
-BreaksOff-as : {was is : Bool} {bytes read put : List ℕ} → IsTrue is ⊎ EndsLine read
+BreaksOff-same_lines : {was is : Bool} {bytes read put : List ℕ} → IsTrue is ⊎ EndsLine read
     → ((all : List (List ℕ)) → AreLines bytes all → AreLines read all)
     → BreaksOff was bytes put → BreaksOff is read put
-BreaksOff-as line_end same h = grind arith
+BreaksOff-same_lines line_end same h = grind arith
 
 module _ {bytes written : List ℕ} {answerer : Answerer} (h : AnswererState bytes written answerer) where
   -- all lines up to the next are valid if and only if those before it and it are
@@ -134,9 +134,10 @@ module _ {bytes written : List ℕ} {answerer : Answerer} (h : AnswererState byt
   -- a run that broke off at a newline behind the input broke off at the end of the input
   pub BreaksOff-rest : {put : List ℕ} → (answerer.line ≡ short_line [] → ⊥) → BreaksOff false (bytes ++ 10 ∷ []) put
       → BreaksOff true bytes put
-  BreaksOff-rest some broke = BreaksOff-as (inl refl) (λ all. lines_at_rest some) broke
+  BreaksOff-rest some broke = BreaksOff-same_lines (inl refl) (λ all. lines_at_rest some) broke
 
 -- a run that broke off after a newline also broke off if the input has ended
 pub BreaksOff-open : (is_ended : Bool) {bytes put : List ℕ} → BreaksOff false bytes put → BreaksOff is_ended bytes put
-BreaksOff-open is_ended h = BreaksOff-as (elim h.line_end [ inl ended ↦ absurd (cc ended) | inr newline ↦ inr newline ])
+BreaksOff-open is_ended h =
+    BreaksOff-same_lines (elim h.line_end [ inl ended ↦ absurd (cc ended) | inr newline ↦ inr newline ])
     (λ all are. are) h

@@ -65,8 +65,8 @@ fn write_line<T: ToLexicalWithOptions>(number: T, buffer: &mut [u8], format: &Nu
     ensures { Writes (WithNewline (IsText (T.number number) format.now)) buffer.old buffer.new result }
 {
     size_suffices(number, format);
-    let room = &mut buffer[..BUFFER_SIZE];
-    let end = number.write_text(room, format);
+    let text_bytes = &mut buffer[..BUFFER_SIZE];
+    let end = number.write_text(text_bytes, format);
     buffer[end] = b'\n';
     end + 1
 }

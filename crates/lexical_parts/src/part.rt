@@ -192,10 +192,10 @@ pub trait Part: Copy {
         ensures text { is_text self result.now }
         ensures at_most { length result.now ≤ room self }
     {
-        let needs_no_check = needs_no_check(self, buffer);
+        let is_known_utf8 = is_known_utf8(self, buffer);
         let text = self.to_text(buffer);
-        if needs_no_check {
-            // SAFETY: `needs_no_check` ensures what `to_text` requires, and `is_utf8`. So `to_text` ensures `utf8`: the
+        if is_known_utf8 {
+            // SAFETY: `is_known_utf8` ensures what `to_text` requires, and `is_utf8`. So `to_text` ensures `utf8`: the
             // text is UTF-8.
             unsafe { from_utf8_unchecked(text) }
         } else {
@@ -267,7 +267,7 @@ fn str_if_it_fits<P: Part>(part: P, buffer: &mut [u8]) -> Option<&str>
 
 // Returns true only if the part is valid, its text is UTF-8, and the buffer has its room. For a part of another crate
 // it returns false, because nothing is known of the text of such a part.
-fn needs_no_check<P: Part>(part: P, buffer: &[u8]) -> bool
+fn is_known_utf8<P: Part>(part: P, buffer: &[u8]) -> bool
     ensures valid { IsTrue result → P.is_valid part }
     ensures utf8 { IsTrue result → P.is_utf8 part }
     ensures room { IsTrue result → P.room part ≤ length buffer.now }

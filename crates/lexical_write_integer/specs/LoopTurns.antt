@@ -22,9 +22,9 @@ quotients r number step count = map (λ turn. number / r ^ (step * turn)) (range
 
 -- a loop that removes `step` digits per iteration, while the number has more than that, and notes each quotient: how
 -- many digits are removed, the remaining quotient, and the notes before and after
-pub record TakesDigits (r number step taken left : ℕ) (before after : List ℕ) : Type 0 where
-  pub count : taken ≡ step * (digits_after_first r number / step)
-  pub rest : left ≡ number / r ^ taken
+pub record RemovesDigits (r number step removed left : ℕ) (before after : List ℕ) : Type 0 where
+  pub count : removed ≡ step * (digits_after_first r number / step)
+  pub rest : left ≡ number / r ^ removed
   pub notes : after ≡ before ++ quotients r number step (digits_after_first r number / step)
 
 -- ---- the notes

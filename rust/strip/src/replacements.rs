@@ -31,7 +31,7 @@ pub(crate) const RULES: &[(&str, &[(&str, &str)])] = &[
             // Its message names what does not hold, and nothing else.
             ("unreachable!", "panic!"),
             // With this attribute rustc would save registers here.
-            ("#[cold] pub(super) fn write_after_count", "pub(super) fn write_after_count"),
+            ("#[cold] pub(super) fn count_then_write", "pub(super) fn count_then_write"),
             ("#[cold] fn write_more_than_ten", "fn write_more_than_ten"),
             ("#[cold] pub(super) fn write_binary", "pub(super) fn write_binary"),
             ("let mut loop_turns = Turns::new();", ""),
@@ -53,7 +53,7 @@ pub(crate) const RULES: &[(&str, &[(&str, &str)])] = &[
             ("f: &'a mut fmt::Formatter<W>,", "f: &'a mut fmt::Formatter<'b>,"),
             ("impl<W: fmt::Write> fmt::Write for Through<'_, W>", "impl fmt::Write for Through<'_, '_>"),
             // rustc proves nothing, so a debug build checks what the `unsafe` after it relies on.
-            ("if needs_no_check {", "if needs_no_check { debug_assert!(from_utf8(text).is_ok());"),
+            ("if is_known_utf8 {", "if is_known_utf8 { debug_assert!(from_utf8(text).is_ok());"),
         ],
     ),
     (

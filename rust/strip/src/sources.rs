@@ -125,15 +125,15 @@ pub(crate) const SOURCES: &[Source] = &[
             (NOT_UNSIGNED, "Radix DigitCount"),
             // In small code a call is left of the first two, and else rustc has them in the caller. The others are
             // called from the writer of long numbers, which calls itself.
-            ("#[inline]", "shared_write_32 shared_write_64 eighth_power count_and_write_more"),
+            ("#[inline]", "shared_write_32 shared_write_64 eighth_power count_and_write_above_eight"),
             // What chooses a writer, the decimal writer, the writer for radices with a fast count, and what
-            // `write_out_of_line` calls. If the format or the radix is constant in a caller, so is the choice.
+            // `write_by_table_out_of_line` calls. If the format or the radix is constant in a caller, so is the choice.
             (
                 "#[inline(always)]\n#[track_caller]",
                 "buffer.rt texts/to_lexical.rt texts/integers.rt digits/write.rt digits/decimal.rt
                 digits/decimal/jeaiii.rt digits/pairs.rt digits/decimal/kernels.rt digits/decimal/decimal_pairs.rt
-                digits/radix/counting_writer.rt digits/radix/steps.rt digits/radix/count_first_writer.rt write_digits
-                write_by_fast_count write_by_table radix radix_called radix_inlined constant_radix write_padded
+                digits/radix/count_while_writing.rt digits/radix/steps.rt digits/radix/count_then_write.rt write_digits
+                write_by_fast_count write_by_table radix write_in_radix_out_of_line write_in_radix write_in_constant_radix write_padded
                 digit_count most_digits fast_log2",
             ),
         ],
@@ -162,7 +162,7 @@ pub(crate) const SOURCES: &[Source] = &[
                 layout/column.rt:write_to layout/zero_padded.rt:room layout/zero_padded.rt:write_to
                 formatting/show.rt:write_pieces write_in_one_piece write_field write_with_length
                 write_at try_write_to write_if_it_fits try_to_str str_if_it_fits
-                is_known_valid_and_utf8 room_bound needs_no_check",
+                is_known_valid_and_utf8 room_bound is_known_utf8",
             ),
             // Some parts are formatted as others in a constant radix. If that radix were not known there, `{}` of a
             // `Decimal` would have the code of all radices in small programs.

@@ -50,16 +50,16 @@ lower_then is first second = record {
 }
 
 -- a joined text of a list, in lowercase, is a joined text whose texts of elements and whose separator are in lowercase
-lower_joined : {A : Type 0} (IsOf : A → List ℕ → Type 0) (separator : List ℕ) (xs : List A) (text : List ℕ)
+AreJoined-lower : {A : Type 0} (IsOf : A → List ℕ → Type 0) (separator : List ℕ) (xs : List A) (text : List ℕ)
     → AreJoined IsOf separator xs text
     → AreJoined (λ x. IsLowercase (IsOf x)) (map to_ascii_lowercase separator) xs (map to_ascii_lowercase text)
-lower_joined IsOf separator [] text is = ap (map to_ascii_lowercase) is
-lower_joined IsOf separator (x ∷ []) text is = record { original = text; is = is; whole = refl }
-lower_joined IsOf separator (x ∷ y ∷ xs) text is =
+AreJoined-lower IsOf separator [] text is = ap (map to_ascii_lowercase) is
+AreJoined-lower IsOf separator (x ∷ []) text is = record { original = text; is = is; whole = refl }
+AreJoined-lower IsOf separator (x ∷ y ∷ xs) text is =
     let rest = is.is_second in
     lower_then is (record { original = is.first; is = is.is_first; whole = refl })
     (lower_then rest (ap (map to_ascii_lowercase) rest.is_first)
-    (lower_joined IsOf separator (y ∷ xs) rest.second rest.is_second))
+    (AreJoined-lower IsOf separator (y ∷ xs) rest.second rest.is_second))
 
 module _ (r width : ℕ) (few : r ≤ 36) (some : 1 ≤ width) where
   read : (n : ℕ) → AreReadAs r (pos n) (IsPadded r width n)
@@ -86,6 +86,6 @@ module _ (r width : ℕ) (few : r ≤ 36) (some : 1 ≤ width) where
       xs ys
       (record {
         text = both.text;
-        is = rw both.is.whole (lower_joined (IsPadded r width) separator xs both.is.original both.is.is);
-        also = rw both.also.whole (lower_joined (IsPadded r width) separator ys both.also.original both.also.is);
+        is = rw both.is.whole (AreJoined-lower (IsPadded r width) separator xs both.is.original both.is.is);
+        also = rw both.also.whole (AreJoined-lower (IsPadded r width) separator ys both.also.original both.also.is);
       })

@@ -46,13 +46,13 @@ take_chars-append n (x ∷ a) b starts =
 
 -- if the first m characters of a text are m, or all if it has fewer, for each m, then with a byte before it, a
 -- character's first or not, the first n characters are n, or all if there are fewer
-count_step : (t : Bool) (n x : ℕ) (a : List ℕ) → is_char_start x ≡ t
+char_count-take_more : (t : Bool) (n x : ℕ) (a : List ℕ) → is_char_start x ≡ t
     → ((m : ℕ) → char_count (take_chars m a) ≡ min m (char_count a))
     → char_count (if t then (if n == 0 then [] else x ∷ take_chars (n - 1) a) else x ∷ take_chars n a)
     ≡ min n ((if t then 1 else 0) + char_count a)
-count_step false n x a is rest = rw (char_count-cons x (take_chars n a), is, rest n) (omega arith)
-count_step true zero x a is rest = rw char_count-nil (omega arith)
-count_step true (suc n) x a is rest =
+char_count-take_more false n x a is rest = rw (char_count-cons x (take_chars n a), is, rest n) (omega arith)
+char_count-take_more true zero x a is rest = rw char_count-nil (omega arith)
+char_count-take_more true (suc n) x a is rest =
     let less : suc n - 1 ≡ n = omega arith in
     rw (less, ne_eqb (suc n) 0 (λ none. omega (arith, none)), char_count-cons x (take_chars n a), is, rest n)
     (omega arith)
@@ -62,7 +62,7 @@ pub char_count-take_chars : (n : ℕ) (a : List ℕ) → char_count (take_chars 
 char_count-take_chars n [] = rw (take_chars-nil n, char_count-nil) (omega arith)
 char_count-take_chars n (x ∷ a) =
     rw (take_chars-cons n x a, char_count-cons x a)
-    (count_step (is_char_start x) n x a refl (λ m. char_count-take_chars m a))
+    (char_count-take_more (is_char_start x) n x a refl (λ m. char_count-take_chars m a))
 
 -- a text that begins with a byte below 128 does not begin within a character: its first 0 characters are no bytes
 low_starts : (b : ℕ) (rest : List ℕ) → b < 128 → take_chars 0 (b ∷ rest) ≡ []

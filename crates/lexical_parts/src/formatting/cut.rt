@@ -56,7 +56,7 @@ fn is_char_start(byte: u8) -> bool
 }
 
 // Writes the first `most` characters of the text, and returns how many fewer than that it has.
-pub(crate) fn write_first<P: Show, O: fmt::Write>(
+pub(crate) fn write_first_chars<P: Show, O: fmt::Write>(
     part: P,
     most: usize,
     out: &mut O,

@@ -12,7 +12,7 @@ ghost use Rattle.lexical_parts.specs.Scientific.{scientific_text};
 ghost use Rattle.lexical_parts.specs.ShownParts.{IsAligned, ShowsSomeOnOk, aligned_text};
 ghost use Rattle.lexical_parts.specs.ZeroPadded.{zero_padded_text};
 
-use crate::formatting::cut::{Nowhere, write_first};
+use crate::formatting::cut::{Nowhere, write_first_chars};
 use crate::formatting::show::{MOST_IN_ONE_PIECE, Show};
 use crate::layout::column::{Center, Left, Right};
 use crate::layout::joined::Joined;
@@ -118,7 +118,7 @@ fn pad_pieces<P: Show, W: fmt::Write>(part: P, f: &mut fmt::Formatter<W>) -> fmt
         × HasWrittenStyled W.write_str_gives f.old (padded (formatter_spec f.old) text) f.new }
 {
     let most = f.precision().unwrap_or(usize::MAX);
-    let count = most - write_first(part, most, &mut Nowhere)?;
+    let count = most - write_first_chars(part, most, &mut Nowhere)?;
     let padding = f.width().unwrap_or(0).saturating_sub(count);
     let before = padding_before(f, padding);
     format_fill(before, f)?;
@@ -142,7 +142,7 @@ fn write_cut<P: Show, W: fmt::Write>(
         × HasWrittenStyled W.write_str_gives f.old (take_chars most text) f.new × (left ≡ most - char_count text)) }
 {
     let mut through = Through { f };
-    let left = write_first(part, most, &mut through)?;
+    let left = write_first_chars(part, most, &mut through)?;
     // No effect at run time, but by this use it is known what the formatter is now.
     let Through { f } = through;
     let _ = &*f;

@@ -18,7 +18,7 @@ use crate::texts::strings::str_is_utf8;
 use lexical_tables::get_table;
 use lexical_write_integer::digit_count::DigitCount;
 use lexical_write_integer::laws::digit_count_within_bits;
-use lexical_write_integer::radix::{Radix, constant_radix};
+use lexical_write_integer::radix::{Radix, write_in_constant_radix};
 use std::fmt;
 
 /// The digits of an unsigned number in radix 16, without a prefix: `Hex(255u32)` writes `FF`. Its room
@@ -45,7 +45,7 @@ impl<T: Radix> Part for Hex<T> {
 
     fn write_to(self, buffer: &mut [u8]) -> usize {
         self.0.fits_bits();
-        constant_radix(self.0, 16, buffer)
+        write_in_constant_radix(self.0, 16, buffer)
     }
 
     fn text_len(self) -> Option<usize>

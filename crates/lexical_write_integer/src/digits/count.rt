@@ -4,7 +4,7 @@ ghost use Rattle.std.specs.Prelude.{◌≡◌, ◌+◌, ◌/◌, ◌^◌, ◌<�
 ghost use Rattle.lexical_num.specs.Format.{IsRadix};
 ghost use Rattle.lexical_num.specs.BitWidth.{IsBitWidth};
 ghost use Rattle.lexical_write_integer.specs.DigitCount.{digit_count};
-ghost use Rattle.lexical_write_integer.specs.LoopTurns.{IsStep, TakesDigits, count_notes, count_turns};
+ghost use Rattle.lexical_write_integer.specs.LoopTurns.{IsStep, RemovesDigits, count_notes, count_turns};
 ghost use Rattle.lexical_write_integer.specs.LoopTurns.{has_fast_count, slow_notes, slow_turns};
 
 pub mod decimal_count;
@@ -46,11 +46,11 @@ fn quotient<T: UnsignedInteger>(number: T, power: T, turns: &mut Turns) -> T
 
 // Removes the last `step` digits of the number per iteration, while it has more than `step` digits.
 // Returns the remaining quotient and the number of digits that were removed.
-fn take_digits<T: UnsignedInteger>(value: T, radix: u32, step: u32, turns: &mut Turns) -> (T, usize)
+fn remove_digits_by<T: UnsignedInteger>(value: T, radix: u32, step: u32, turns: &mut Turns) -> (T, usize)
     requires radix { IsRadix radix }
     requires step { IsStep step }
     // The notes are the quotients.
-    ensures { TakesDigits radix (T.magnitude value) step result.1 (T.magnitude result.0)
+    ensures { RemovesDigits radix (T.magnitude value) step result.1 (T.magnitude result.0)
         turns.old turns.new }
 {
     value.fits_bits();
@@ -58,12 +58,12 @@ fn take_digits<T: UnsignedInteger>(value: T, radix: u32, step: u32, turns: &mut 
         return (value, 0);
     };
     let mut left = value;
-    let mut taken = 0;
+    let mut removed = 0;
     while left.is_at_least(power) {
         left = quotient(left, power, turns);
-        taken += step as usize;
+        removed += step as usize;
     }
-    (left, taken)
+    (left, removed)
 }
 
 /// Returns how many digits the number has. They are counted by division: four per iteration while more
@@ -80,9 +80,9 @@ pub fn slow_digit_count_counted<T: UnsignedInteger>(x: T, radix: u32, turns: &mu
 {
     prove!(is_radix(radix as u64), "the radix is not from 2 to 36");
     x.fits_bits();
-    let (left, by_four) = take_digits(x, radix, 4, turns);
-    let (left, by_two) = take_digits(left, radix, 2, turns);
-    let (_, by_one) = take_digits(left, radix, 1, turns);
+    let (left, by_four) = remove_digits_by(x, radix, 4, turns);
+    let (left, by_two) = remove_digits_by(left, radix, 2, turns);
+    let (_, by_one) = remove_digits_by(left, radix, 1, turns);
     1 + by_four + by_two + by_one
 }
 

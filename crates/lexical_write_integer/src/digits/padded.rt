@@ -7,7 +7,7 @@ ghost use Rattle.lexical_write_integer.specs.Padded.{IsPadded};
 
 use super::count::DigitCount;
 use super::decimal::decimal_pairs::write_decimal_block;
-use super::radix::{Radix, constant_radix};
+use super::radix::{Radix, write_in_constant_radix};
 use lexical_num::limits::is_radix;
 
 // Writes the character `0` to each byte of the buffer.
@@ -69,5 +69,5 @@ pub fn write_padded<T: DigitCount + Radix>(value: T, radix: u32, buffer: &mut [u
     );
     let zeros = buffer.len() - count;
     write_zeros(&mut buffer[..zeros]);
-    zeros + constant_radix(value, radix, &mut buffer[zeros..])
+    zeros + write_in_constant_radix(value, radix, &mut buffer[zeros..])
 }

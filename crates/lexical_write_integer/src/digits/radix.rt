@@ -12,8 +12,8 @@ pub mod algorithm;
 mod binary_words;
 mod by_radix;
 pub mod compact;
-mod count_first_writer;
-mod counting_writer;
+mod count_then_write;
+mod count_while_writing;
 mod steps;
 
 use crate::digits::count::has_fast_count;
@@ -22,9 +22,9 @@ use crate::laws::digit_count_within_bits;
 use crate::turns::Turns;
 use binary_words::write_binary;
 use by_radix::by_radix;
-use count_first_writer::{write_after_count, write_one_or_two_digits};
-use counting_writer::{
-    count_and_write_five_to_eight, count_and_write_more, count_and_write_up_to_four, eighth_power,
+use count_then_write::{count_then_write, write_one_or_two_digits};
+use count_while_writing::{
+    count_and_write_five_to_eight, count_and_write_above_eight, count_and_write_up_to_four, eighth_power,
 };
 use lexical_num::num::UnsignedInteger;
 use lexical_tables::get_table;
@@ -51,7 +51,7 @@ fn write_by_fast_count<const R: u32>(
     } else if number < u64::from(R * R) {
         write_one_or_two_digits(number, table, buffer, turns)
     } else {
-        write_after_count(number, table, buffer, turns)
+        count_then_write(number, table, buffer, turns)
     }
 }
 
@@ -83,7 +83,7 @@ fn write_digits<T: UnsignedInteger, const R: u32>(
     } else if number < eighth_power(R) {
         count_and_write_five_to_eight(number, table, buffer, turns, &mut loop_turns)
     } else {
-        count_and_write_more(number, table, buffer, turns, &mut loop_turns)
+        count_and_write_above_eight(number, table, buffer, turns, &mut loop_turns)
     };
     turns.append(&loop_turns);
     count
@@ -106,7 +106,7 @@ fn write_by_table<T: UnsignedInteger, const R: u32>(
 // Writes a number as `write_by_table` does, by a call: its code is too long for each caller.
 // It is cold: otherwise each call for a shorter number would save registers that only this needs.
 #[cold]
-fn write_out_of_line<T: UnsignedInteger, const R: u32>(
+fn write_by_table_out_of_line<T: UnsignedInteger, const R: u32>(
     value: T,
     buffer: &mut [u8],
     turns: &mut Turns,
@@ -122,7 +122,7 @@ fn write_out_of_line<T: UnsignedInteger, const R: u32>(
 
 // Writes a number as `write_by_table` does. One or two digits, which are frequent, and each number of a type of 8 or 16
 // bits, whose code is short, are written in the caller. A longer number is written by a call.
-fn write_long_out_of_line<T: UnsignedInteger, const R: u32>(
+fn write_short_inline<T: UnsignedInteger, const R: u32>(
     value: T,
     buffer: &mut [u8],
     turns: &mut Turns,
@@ -140,14 +140,14 @@ fn write_long_out_of_line<T: UnsignedInteger, const R: u32>(
     if T::BITS < 32 {
         return write_by_table::<T, R>(value, buffer, turns);
     }
-    write_out_of_line::<T, R>(value, buffer, turns)
+    write_by_table_out_of_line::<T, R>(value, buffer, turns)
 }
 
 // Writes the digits by the code of the radix, which names the table. In a power of 2 this code is short enough to be in
 // each caller. The function is cold: otherwise LLVM would join its choice of a radix with the caller's test for radix
 // 10.
 #[cold]
-pub(crate) fn radix_inlined<T: UnsignedInteger>(
+pub(crate) fn write_in_radix<T: UnsignedInteger>(
     value: T,
     radix: u32,
     buffer: &mut [u8],
@@ -158,12 +158,12 @@ pub(crate) fn radix_inlined<T: UnsignedInteger>(
     ensures digits { WritesDigits radix (T.magnitude value) buffer.old buffer.new result }
     ensures notes { turns.new ≡ turns.old ++ table_notes radix (T.magnitude value) }
 {
-    by_radix!(radix, write_by_table or write_long_out_of_line::<T>(value, buffer, turns))
+    by_radix!(radix, write_by_table or write_short_inline::<T>(value, buffer, turns))
 }
 
-// Writes the digits as `radix_inlined` does, but by a call. Only one or two digits in a radix that is no power of 2 are
+// Writes the digits as `write_in_radix` does, but by a call. Only one or two digits in a radix that is no power of 2 are
 // written in the caller. So a caller whose radix is constant has little code.
-fn radix_called<T: UnsignedInteger>(
+fn write_in_radix_out_of_line<T: UnsignedInteger>(
     value: T,
     radix: u32,
     buffer: &mut [u8],
@@ -174,7 +174,7 @@ fn radix_called<T: UnsignedInteger>(
     ensures digits { WritesDigits radix (T.magnitude value) buffer.old buffer.new result }
     ensures notes { turns.new ≡ turns.old ++ table_notes radix (T.magnitude value) }
 {
-    by_radix!(radix, write_out_of_line or write_long_out_of_line::<T>(value, buffer, turns))
+    by_radix!(radix, write_by_table_out_of_line or write_short_inline::<T>(value, buffer, turns))
 }
 
 /// Writes the digits of the number as `Radix::radix` does, by code that rustc has in each caller: the radix is to be
@@ -183,14 +183,14 @@ fn radix_called<T: UnsignedInteger>(
 /// # Panics
 ///
 /// If the radix is not from 2 to 36, or if the buffer is [too short](crate::conditions).
-pub fn constant_radix<T: UnsignedInteger>(value: T, radix: u32, buffer: &mut [u8]) -> usize
+pub fn write_in_constant_radix<T: UnsignedInteger>(value: T, radix: u32, buffer: &mut [u8]) -> usize
     requires radix { IsRadix radix }
     requires room { digit_count radix (T.magnitude value) ≤ length buffer.old }
     ensures digits { WritesDigits radix (T.magnitude value) buffer.old buffer.new result }
     ensures at_most { result ≤ T.BITS }
 {
     digit_count_within_bits(radix, value);
-    radix_inlined(value, radix, buffer, &mut Turns::new())
+    write_in_radix(value, radix, buffer, &mut Turns::new())
 }
 
 /// An unsigned integer type whose digits are written in every radix.
@@ -208,7 +208,7 @@ pub trait Radix: UnsignedInteger {
         ensures at_most { result ≤ Self.BITS }
     {
         digit_count_within_bits(radix, self);
-        radix_called(self, radix, buffer, &mut Turns::new())
+        write_in_radix_out_of_line(self, radix, buffer, &mut Turns::new())
     }
 }
 

@@ -10,7 +10,7 @@ ghost use Rattle.lexical_write_integer.specs.Text.{digits_need};
 
 use super::count::DigitCount;
 use super::decimal::Decimal;
-use super::radix::{Radix, radix_inlined};
+use super::radix::{Radix, write_in_radix};
 use crate::turns::Turns;
 use lexical_num::format::NumberFormat;
 use lexical_num::num::{LexicalInteger, UnsignedInteger};
@@ -38,7 +38,7 @@ pub fn write_integer_counted<T: Decimal + DigitCount>(
     if radix == 10 {
         value.decimal_counted(buffer, turns)
     } else {
-        radix_inlined(value, radix, buffer, turns)
+        write_in_radix(value, radix, buffer, turns)
     }
 }
 
@@ -83,7 +83,7 @@ pub trait WriteInteger: Decimal + Radix {
         if radix == 10 {
             self.decimal_signed(buffer)
         } else {
-            radix_inlined(self, radix, buffer, &mut Turns::new())
+            write_in_radix(self, radix, buffer, &mut Turns::new())
         }
     }
 

@@ -36,8 +36,8 @@ pub fn equal_across_formats<T: LexicalInteger, U: LexicalInteger>(
     format: &NumberFormat,
     other: &NumberFormat,
 )
-    requires plain { format.now.digit_grouping ≡ None }
-    requires bare { other.now.digit_grouping ≡ None }
+    requires groups { format.now.digit_grouping ≡ None }
+    requires other_groups { other.now.digit_grouping ≡ None }
     requires radix { format.now.mantissa_radix ≡ other.now.mantissa_radix }
     ensures { HaveInCommon (IsText (T.number a) format.now) (IsText (U.number b) other.now)
         → T.number a ≡ U.number b }

@@ -134,11 +134,11 @@ pub trait Part: Copy {
     #[track_caller]
     #[allow(unsafe_code)]
     fn to_str(self, buffer: &mut [u8]) -> &str {
-        let needs_no_check = needs_no_check(self, buffer);
+        let is_known_utf8 = is_known_utf8(self, buffer);
         let text = self.to_text(buffer);
-        if needs_no_check {
+        if is_known_utf8 {
             debug_assert!(from_utf8(text).is_ok());
-            // SAFETY: `needs_no_check` ensures what `to_text` requires, and `is_utf8`. So `to_text` ensures `utf8`: the
+            // SAFETY: `is_known_utf8` ensures what `to_text` requires, and `is_utf8`. So `to_text` ensures `utf8`: the
             // text is UTF-8.
             unsafe { from_utf8_unchecked(text) }
         } else {
@@ -191,7 +191,7 @@ fn str_if_it_fits<P: Part>(part: P, buffer: &mut [u8]) -> Option<&str> {
 // Returns true only if the part is valid, its text is UTF-8, and the buffer has its room. For a part of another crate
 // it returns false, because nothing is known of the text of such a part.
 #[inline(always)]
-fn needs_no_check<P: Part>(part: P, buffer: &[u8]) -> bool {
+fn is_known_utf8<P: Part>(part: P, buffer: &[u8]) -> bool {
     part.is_known_valid_and_utf8(Sealed)
         && (part.room_bound(Sealed) <= buffer.len() || part.room() <= buffer.len())
 }

@@ -4,8 +4,8 @@ use Rattle.lexical_lines.proofs.AnswerTexts.{Writes-newline}
 use Rattle.lexical_write_integer.proofs.Buffers.Prefixes.{Writes-part}
 use Rattle.lexical_lines.proofs.answer.write_line.Goals as goal
 
-pub slice_bounds-room-end-2 : goal.slice_bounds-room-end-2
-slice_bounds-room-end-2 g c = sym (length-take-le 128 c.args.buffer.now (omega (arith, c.requires)))
+pub slice_bounds-text_bytes-end-2 : goal.slice_bounds-text_bytes-end-2
+slice_bounds-text_bytes-end-2 g c = sym (length-take-le 128 c.args.buffer.now (omega (arith, c.requires)))
 
 pub write_text-end-requires : goal.write_text-end-requires
 write_text-end-requires g c =

@@ -12,7 +12,7 @@ use crate::digits::pairs::RadixTable;
 use crate::turns::Turns;
 
 // The digits of each number below 100, with a zero after a single one.
-const FIRST_PAIRS: [u8; 200] = *b"\
+const LEFT_ALIGNED_PAIRS: [u8; 200] = *b"\
     00102030405060708090\
     10111213141516171819\
     20212223242526272829\
@@ -31,7 +31,7 @@ fn first_pair(pair: u32) -> (u8, u8)
     ensures two { 10 ≤ pair → (result.0 ≡ digit_char (pair / 10)) × (result.1 ≡ digit_char (pair % 10)) }
 {
     let index = 2 * pair as usize;
-    (FIRST_PAIRS[index], FIRST_PAIRS[index + 1])
+    (LEFT_ALIGNED_PAIRS[index], LEFT_ALIGNED_PAIRS[index + 1])
 }
 
 /// Writes the one or two digits of a number below 100 to the start of the buffer, and returns how many
@@ -53,7 +53,7 @@ pub(crate) fn write_one_or_two(pair: u32, buffer: &mut [u8]) -> usize
 
 // Writes the one or two digits of a number below 100 to the start of the buffer, and returns how many there are. After
 // a single digit it writes a zero, which the next digits replace.
-fn write_first(pair: u32, buffer: &mut [u8]) -> usize
+fn write_first_pair(pair: u32, buffer: &mut [u8]) -> usize
     requires pair { pair < 100 }
     requires room { 2 ≤ length buffer.old }
     // The old buffer is not named, because the byte after a single digit changes.
@@ -85,7 +85,7 @@ pub(crate) fn write_pairs(
     ensures notes { turns.new ≡ turns.old ++ products fraction pair_count }
     ensures turns { length turns.new ≡ length turns.old + (result - 1) / 2 }
 {
-    let mut count = write_first((fraction >> 32) as u32, buffer);
+    let mut count = write_first_pair((fraction >> 32) as u32, buffer);
     let table = RadixTable::<10>::new();
     let mut rest = fraction;
     for _ in 0..pair_count {

@@ -16,7 +16,7 @@ use crate::turns::Turns;
 use lexical_num::num::UnsignedInteger;
 
 // Calls `write_digits` for a radix that is known only at run time.
-fn write_digits_in<T: UnsignedInteger>(
+fn write_digits_in_radix<T: UnsignedInteger>(
     value: T,
     radix: u32,
     table: &[u8],
@@ -67,7 +67,7 @@ pub fn algorithm_counted<T: DigitCount>(
         "the table does not begin with the digit pairs of the radix"
     );
     value.fits_bits();
-    write_digits_in(value, radix, table, buffer, turns)
+    write_digits_in_radix(value, radix, table, buffer, turns)
 }
 
 /// Writes the digits of the number to the start of the buffer, and returns how many there are. The radix is

@@ -5,7 +5,7 @@ ghost use Rattle.lexical_write_integer.specs.Buffer.{WritesBlock, WritesDigits};
 ghost use Rattle.lexical_write_integer.specs.DigitCount.{digit_count};
 ghost use Rattle.lexical_write_integer.specs.LoopTurns.{loop_notes, table_notes};
 
-use super::count_first_writer::count_of_nonzero;
+use super::count_then_write::count_of_nonzero;
 use super::steps::{note_up_to_four, remove_four};
 use crate::turns::Turns;
 

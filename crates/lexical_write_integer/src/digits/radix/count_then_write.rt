@@ -137,7 +137,7 @@ fn write_up_to_four<const R: u32>(
 // four are left. At last it writes the first one to four digits. In a power of 2 these are found before the loop, so
 // that the number takes no register in it.
 #[cold] // Otherwise each call would save registers that only this needs.
-pub(super) fn write_after_count<const R: u32>(
+pub(super) fn count_then_write<const R: u32>(
     value: u64,
     table: RadixTable<'_, R>,
     buffer: &mut [u8],

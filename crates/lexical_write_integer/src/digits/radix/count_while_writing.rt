@@ -111,7 +111,7 @@ fn count_and_write_up_to_eight<const R: u32>(
 
 // Counts more than eight digits by division, and writes them: those before the last eight first, since only then the
 // index of the last eight is known.
-pub(super) fn count_and_write_more<const R: u32>(
+pub(super) fn count_and_write_above_eight<const R: u32>(
     value: u64,
     table: RadixTable<'_, R>,
     buffer: &mut [u8],
@@ -131,7 +131,7 @@ pub(super) fn count_and_write_more<const R: u32>(
     let head = if second < eighth_power(R) {
         count_and_write_up_to_eight(second, table, buffer, turns, loop_turns)
     } else {
-        count_and_write_more(second, table, buffer, turns, loop_turns)
+        count_and_write_above_eight(second, table, buffer, turns, loop_turns)
     };
     write_four(last_four::<R>(first), table, buffer, head);
     write_four(last_four::<R>(value), table, buffer, head + 4);

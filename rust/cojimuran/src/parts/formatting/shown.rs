@@ -2,7 +2,7 @@
 
 //! Parts in a format string with the options of a `&str`: those whose text is not that of one number, and `Scientific`.
 
-use crate::parts::formatting::cut::{Nowhere, write_first};
+use crate::parts::formatting::cut::{Nowhere, write_first_chars};
 use crate::parts::formatting::show::{MOST_IN_ONE_PIECE, Show};
 use crate::parts::layout::column::{Center, Left, Right};
 use crate::parts::layout::joined::Joined;
@@ -88,7 +88,7 @@ fn is_bare(f: &fmt::Formatter<'_>) -> bool {
 #[inline]
 fn pad_pieces<P: Show>(part: P, f: &mut fmt::Formatter<'_>) -> fmt::Result {
     let most = f.precision().unwrap_or(usize::MAX);
-    let count = most - write_first(part, most, &mut Nowhere)?;
+    let count = most - write_first_chars(part, most, &mut Nowhere)?;
     let padding = f.width().unwrap_or(0).saturating_sub(count);
     let before = padding_before(f, padding);
     format_fill(before, f)?;
@@ -108,7 +108,7 @@ fn write_cut<P: Show>(
     f: &mut fmt::Formatter<'_>,
 ) -> Result<usize, fmt::Error> {
     let mut through = Through { f };
-    let left = write_first(part, most, &mut through)?;
+    let left = write_first_chars(part, most, &mut through)?;
     // No effect at run time, but by this use it is known what the formatter is now.
     let Through { f } = through;
     let _ = &*f;

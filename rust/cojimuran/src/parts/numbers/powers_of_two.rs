@@ -9,7 +9,7 @@ use crate::parts::part::Part;
 use crate::parts::sealed::Sealed;
 use crate::tables::get_table;
 use crate::write_integer::digit_count::DigitCount;
-use crate::write_integer::radix::{Radix, constant_radix};
+use crate::write_integer::radix::{Radix, write_in_constant_radix};
 use core::fmt;
 
 /// The digits of an unsigned number in radix 16, without a prefix: `Hex(255u32)` writes `FF`. Its room
@@ -35,7 +35,7 @@ impl<T: Radix> Part for Hex<T> {
     #[inline(always)]
     #[track_caller]
     fn write_to(self, buffer: &mut [u8]) -> usize {
-        constant_radix(self.0, 16, buffer)
+        write_in_constant_radix(self.0, 16, buffer)
     }
 
     #[inline(always)]

@@ -32,17 +32,17 @@ fn quotient<T: UnsignedInteger>(number: T, power: T) -> T {
 // Removes the last `step` digits of the number per iteration, while it has more than `step` digits.
 // Returns the remaining quotient and the number of digits that were removed.
 #[inline]
-fn take_digits<T: UnsignedInteger>(value: T, radix: u32, step: u32) -> (T, usize) {
+fn remove_digits_by<T: UnsignedInteger>(value: T, radix: u32, step: u32) -> (T, usize) {
     let Some(power) = power_of::<T>(radix, step) else {
         return (value, 0);
     };
     let mut left = value;
-    let mut taken = 0;
+    let mut removed = 0;
     while left.is_at_least(power) {
         left = quotient(left, power);
-        taken += step as usize;
+        removed += step as usize;
     }
-    (left, taken)
+    (left, removed)
 }
 
 /// Returns how many digits the number has. They are counted by division: four per iteration while more
@@ -50,9 +50,9 @@ fn take_digits<T: UnsignedInteger>(value: T, radix: u32, step: u32) -> (T, usize
 #[inline]
 pub(crate) fn slow_digit_count<T: UnsignedInteger>(x: T, radix: u32) -> usize {
     assert!(is_radix(radix as u64), "the radix is not from 2 to 36");
-    let (left, by_four) = take_digits(x, radix, 4);
-    let (left, by_two) = take_digits(left, radix, 2);
-    let (_, by_one) = take_digits(left, radix, 1);
+    let (left, by_four) = remove_digits_by(x, radix, 4);
+    let (left, by_two) = remove_digits_by(left, radix, 2);
+    let (_, by_one) = remove_digits_by(left, radix, 1);
     1 + by_four + by_two + by_one
 }
 

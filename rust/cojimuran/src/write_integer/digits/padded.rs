@@ -4,7 +4,7 @@
 
 use super::count::DigitCount;
 use super::decimal::decimal_pairs::write_decimal_block;
-use super::radix::{Radix, constant_radix};
+use super::radix::{Radix, write_in_constant_radix};
 use crate::num::limits::is_radix;
 
 // Writes the character `0` to each byte of the buffer.
@@ -60,5 +60,5 @@ pub fn write_padded<T: DigitCount + Radix>(value: T, radix: u32, buffer: &mut [u
     );
     let zeros = buffer.len() - count;
     write_zeros(&mut buffer[..zeros]);
-    zeros + constant_radix(value, radix, &mut buffer[zeros..])
+    zeros + write_in_constant_radix(value, radix, &mut buffer[zeros..])
 }

@@ -7,8 +7,8 @@ pub mod algorithm;
 mod binary_words;
 mod by_radix;
 pub mod compact;
-mod count_first_writer;
-mod counting_writer;
+mod count_then_write;
+mod count_while_writing;
 mod steps;
 
 use crate::num::num::UnsignedInteger;
@@ -17,9 +17,10 @@ use crate::write_integer::digits::count::has_fast_count;
 use crate::write_integer::digits::pairs::RadixTable;
 use binary_words::write_binary;
 use by_radix::by_radix;
-use count_first_writer::{write_after_count, write_one_or_two_digits};
-use counting_writer::{
-    count_and_write_five_to_eight, count_and_write_more, count_and_write_up_to_four, eighth_power,
+use count_then_write::{count_then_write, write_one_or_two_digits};
+use count_while_writing::{
+    count_and_write_above_eight, count_and_write_five_to_eight, count_and_write_up_to_four,
+    eighth_power,
 };
 use steps::fourth_power;
 
@@ -34,7 +35,7 @@ fn write_by_fast_count<const R: u32>(number: u64, table: &[u8], buffer: &mut [u8
     } else if number < u64::from(R * R) {
         write_one_or_two_digits(number, table, buffer)
     } else {
-        write_after_count(number, table, buffer)
+        count_then_write(number, table, buffer)
     }
 }
 
@@ -58,7 +59,7 @@ fn write_digits<T: UnsignedInteger, const R: u32>(
     } else if number < eighth_power(R) {
         count_and_write_five_to_eight(number, table, buffer)
     } else {
-        count_and_write_more(number, table, buffer)
+        count_and_write_above_eight(number, table, buffer)
     }
 }
 
@@ -73,7 +74,10 @@ fn write_by_table<T: UnsignedInteger, const R: u32>(value: T, buffer: &mut [u8])
 // It is cold: otherwise each call for a shorter number would save registers that only this needs.
 #[cold]
 #[inline]
-fn write_out_of_line<T: UnsignedInteger, const R: u32>(value: T, buffer: &mut [u8]) -> usize {
+fn write_by_table_out_of_line<T: UnsignedInteger, const R: u32>(
+    value: T,
+    buffer: &mut [u8],
+) -> usize {
     let table = get_table(R);
     write_digits::<T, R>(value, table, buffer)
 }
@@ -81,7 +85,7 @@ fn write_out_of_line<T: UnsignedInteger, const R: u32>(value: T, buffer: &mut [u
 // Writes a number as `write_by_table` does. One or two digits, which are frequent, and each number of a type of 8 or 16
 // bits, whose code is short, are written in the caller. A longer number is written by a call.
 #[inline]
-fn write_long_out_of_line<T: UnsignedInteger, const R: u32>(value: T, buffer: &mut [u8]) -> usize {
+fn write_short_inline<T: UnsignedInteger, const R: u32>(value: T, buffer: &mut [u8]) -> usize {
     let number = value.as_u64();
     if number < u64::from(R * R) {
         return write_one_or_two_digits(number, RadixTable::<R>::new(), buffer);
@@ -89,7 +93,7 @@ fn write_long_out_of_line<T: UnsignedInteger, const R: u32>(value: T, buffer: &m
     if T::BITS < 32 {
         return write_by_table::<T, R>(value, buffer);
     }
-    write_out_of_line::<T, R>(value, buffer)
+    write_by_table_out_of_line::<T, R>(value, buffer)
 }
 
 // Writes the digits by the code of the radix, which names the table. In a power of 2 this code is short enough to be in
@@ -98,16 +102,20 @@ fn write_long_out_of_line<T: UnsignedInteger, const R: u32>(value: T, buffer: &m
 #[cold]
 #[inline(always)]
 #[track_caller]
-pub(crate) fn radix_inlined<T: UnsignedInteger>(value: T, radix: u32, buffer: &mut [u8]) -> usize {
-    by_radix!(radix, write_by_table or write_long_out_of_line::<T>(value, buffer))
+pub(crate) fn write_in_radix<T: UnsignedInteger>(value: T, radix: u32, buffer: &mut [u8]) -> usize {
+    by_radix!(radix, write_by_table or write_short_inline::<T>(value, buffer))
 }
 
-// Writes the digits as `radix_inlined` does, but by a call. Only one or two digits in a radix that is no power of 2 are
+// Writes the digits as `write_in_radix` does, but by a call. Only one or two digits in a radix that is no power of 2 are
 // written in the caller. So a caller whose radix is constant has little code.
 #[inline(always)]
 #[track_caller]
-fn radix_called<T: UnsignedInteger>(value: T, radix: u32, buffer: &mut [u8]) -> usize {
-    by_radix!(radix, write_out_of_line or write_long_out_of_line::<T>(value, buffer))
+fn write_in_radix_out_of_line<T: UnsignedInteger>(
+    value: T,
+    radix: u32,
+    buffer: &mut [u8],
+) -> usize {
+    by_radix!(radix, write_by_table_out_of_line or write_short_inline::<T>(value, buffer))
 }
 
 /// Writes the digits of the number as `Radix::radix` does, by code that rustc has in each caller: the radix is to be
@@ -118,8 +126,12 @@ fn radix_called<T: UnsignedInteger>(value: T, radix: u32, buffer: &mut [u8]) -> 
 /// If the radix is not from 2 to 36, or if the buffer is [too short](crate::conditions).
 #[inline(always)]
 #[track_caller]
-pub fn constant_radix<T: UnsignedInteger>(value: T, radix: u32, buffer: &mut [u8]) -> usize {
-    radix_inlined(value, radix, buffer)
+pub fn write_in_constant_radix<T: UnsignedInteger>(
+    value: T,
+    radix: u32,
+    buffer: &mut [u8],
+) -> usize {
+    write_in_radix(value, radix, buffer)
 }
 
 /// An unsigned integer type whose digits are written in every radix.
@@ -137,7 +149,7 @@ pub trait Radix: UnsignedInteger {
     #[inline(always)]
     #[track_caller]
     fn radix(self, radix: u32, buffer: &mut [u8]) -> usize {
-        radix_called(self, radix, buffer)
+        write_in_radix_out_of_line(self, radix, buffer)
     }
 }
 

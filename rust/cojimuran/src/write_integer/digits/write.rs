@@ -5,7 +5,7 @@
 
 use super::count::DigitCount;
 use super::decimal::Decimal;
-use super::radix::{Radix, radix_inlined};
+use super::radix::{Radix, write_in_radix};
 use crate::num::format::NumberFormat;
 use crate::num::num::{LexicalInteger, UnsignedInteger};
 
@@ -21,7 +21,7 @@ pub(crate) fn write_integer<T: Decimal + DigitCount>(
     if radix == 10 {
         value.decimal(buffer)
     } else {
-        radix_inlined(value, radix, buffer)
+        write_in_radix(value, radix, buffer)
     }
 }
 
@@ -55,7 +55,7 @@ pub trait WriteInteger: Decimal + Radix {
         if radix == 10 {
             self.decimal_signed(buffer)
         } else {
-            radix_inlined(self, radix, buffer)
+            write_in_radix(self, radix, buffer)
         }
     }
 

@@ -1,6 +1,6 @@
 use Rattle.std.proofs.Common.{refl, rules}
 use Rattle.lexical_parts.proofs.OfTexts.CutTexts.{cut_closed}
-use Rattle.lexical_parts.proofs.formatting.cut.write_first.Goals as goal
+use Rattle.lexical_parts.proofs.formatting.cut.write_first_chars.Goals as goal
 
 pub returns : goal.returns
 returns g c =

@@ -6,7 +6,7 @@ use Rattle.std.proofs.lemmas.List.{append-nil}
 use Rattle.std.proofs.lemmas.List.FromFn.{map-range_with_len_more, length-map-range_with_len}
 use Rattle.std.proofs.lemmas.Nat.{div-mul-add}
 use Rattle.lexical_write_integer.specs.DigitCount.{digit_count}
-use Rattle.lexical_write_integer.specs.LoopTurns.{IsStep, TakesDigits, digits_after_first, quotients}
+use Rattle.lexical_write_integer.specs.LoopTurns.{IsStep, RemovesDigits, digits_after_first, quotients}
 use Rattle.lexical_write_integer.proofs.OfDigits.Count.DigitCounts.{digit_count-pos, digit_count-le, digit_count-left}
 use Rattle.lexical_write_integer.proofs.OfDigits.Count.DigitCounts.{digit_count-more}
 use Rattle.lexical_write_integer.proofs.OfDigits.Powers.{div-pow_more}
@@ -83,19 +83,19 @@ IsDivided-more {r} {n} {step} {taken} {next = next} {before} two d long e noted 
     grind (arith, div-pow_more, IsDivided-room, quotients-more, append_assoc)
 
 -- the loop ends when the number that is left has at most `step` digits
-pub TakesDigits-end : {r n step taken left : ℕ} {before after : List ℕ}
+pub RemovesDigits-end : {r n step taken left : ℕ} {before after : List ℕ}
     → 2 ≤ r → IsStep step → IsDivided r n step taken left before after → left < r ^ step
-    → TakesDigits r n step taken left before after
-TakesDigits-end {r} {n} {step} {taken} {left} two stepped d short =
+    → RemovesDigits r n step taken left before after
+RemovesDigits-end {r} {n} {step} {taken} {left} two stepped d short =
     let few = digit_count-le r left step (step-pos step stepped) short in
     let counts = digit_count-left r n taken left two d.fewer d.rest in
     let turns : digits_after_first r n / step ≡ d.turns = grind (arith, div-mul-add) in
     record { count = rw turns d.by_turns; rest = d.rest; notes = rw turns d.notes }
 
 -- a loop that is not entered
-pub TakesDigits-none : {r n step : ℕ} {notes : List ℕ} → 2 ≤ r → IsStep step → n < r ^ step
-    → TakesDigits r n step 0 n notes notes
-TakesDigits-none two stepped short = TakesDigits-end two stepped IsDivided-start short
+pub RemovesDigits-none : {r n step : ℕ} {notes : List ℕ} → 2 ≤ r → IsStep step → n < r ^ step
+    → RemovesDigits r n step 0 n notes notes
+RemovesDigits-none two stepped short = RemovesDigits-end two stepped IsDivided-start short
 
 -- each quotient is smaller than the one before
 pub left-smaller : {r step left next : ℕ} → 2 ≤ r → IsStep step → r ^ step ≤ left → next ≡ left / r ^ step → next < left
@@ -104,6 +104,6 @@ left-smaller {r} {step} {left} two stepped long e = grind (arith, power-gt_one)
 -- ---- after the loop
 
 -- the digits that are left and those that were removed are as many as the number has
-pub TakesDigits-counts : {r n step taken left : ℕ} {before after : List ℕ}
-    → 2 ≤ r → TakesDigits r n step taken left before after → digit_count r left + taken ≡ digit_count r n
-TakesDigits-counts {r} {n} {step} {taken} {left} two t = grind (arith, digit_count-left, digit_count-pos)
+pub RemovesDigits-counts : {r n step taken left : ℕ} {before after : List ℕ}
+    → 2 ≤ r → RemovesDigits r n step taken left before after → digit_count r left + taken ≡ digit_count r n
+RemovesDigits-counts {r} {n} {step} {taken} {left} two t = grind (arith, digit_count-left, digit_count-pos)

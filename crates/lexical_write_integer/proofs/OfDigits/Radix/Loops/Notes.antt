@@ -9,7 +9,7 @@ use Rattle.std.proofs.lemmas.List.{append-nil}
 use Rattle.std.proofs.lemmas.Bool.{cond_both, ltb-true, ltb-false, eqb-true, eqb-false, cases_eq}
 use Rattle.lexical_num.specs.BitWidth.{IsBitWidth}
 use Rattle.lexical_write_integer.specs.DigitCount.{digit_count}
-use Rattle.lexical_write_integer.specs.LoopTurns.{TakesDigits, digits_after_first, quotients, loop_notes, slow_notes}
+use Rattle.lexical_write_integer.specs.LoopTurns.{RemovesDigits, digits_after_first, quotients, loop_notes, slow_notes}
 use Rattle.lexical_write_integer.specs.LoopTurns.{count_notes, table_notes}
 use Rattle.lexical_write_integer.specs.LoopTurns.{compact_notes, has_fast_count, loop_turns, slow_turns, count_turns}
 use Rattle.lexical_write_integer.specs.LoopTurns.{table_turns, compact_turns}
@@ -19,7 +19,7 @@ use Rattle.lexical_write_integer.proofs.OfDigits.Count.DigitCounts.{digit_count-
 use Rattle.lexical_write_integer.proofs.OfDigits.Powers.{div-pow_more, pow-one}
 use Rattle.lexical_write_integer.proofs.OfDigits.Count.RadixPowers.{power-gt_one}
 use Rattle.lexical_write_integer.proofs.OfDigits.Radix.Loops.Divisions.{quotients-none, quotients-more, quotients-first}
-use Rattle.lexical_write_integer.proofs.OfDigits.Radix.Loops.Divisions.{length-quotients, TakesDigits-counts}
+use Rattle.lexical_write_integer.proofs.OfDigits.Radix.Loops.Divisions.{length-quotients, RemovesDigits-counts}
 
 -- a loop of one iteration that removes `step` digits has a single quotient: the number divided by r ^ step
 quotients-one : (r n step : ℕ) → quotients r n step 1 ≡ n / r ^ step ∷ []
@@ -36,12 +36,12 @@ left_left r n i j = let order : j + i ≡ i + j = omega arith in div-pow_more r 
 
 -- the loop that divides by the square has at most one iteration
 two_notes : {r n four left : ℕ} {a b : List ℕ}
-    → 2 ≤ r → TakesDigits r n 4 four left a b
+    → 2 ≤ r → RemovesDigits r n 4 four left a b
     → quotients r left 2 (digits_after_first r left / 2)
     ≡ cond (ltb (digits_after_first r n % 4) 2) [] (n / r ^ (4 * (digits_after_first r n / 4) + 2) ∷ [])
 two_notes {r} {n} {four} {left} two t =
     let following : digits_after_first r left ≡ digits_after_first r n % 4 =
-    omega (arith, t.count, TakesDigits-counts two t, digit_count-pos r left) in
+    omega (arith, t.count, RemovesDigits-counts two t, digit_count-pos r left) in
     cond_both (ltb (digits_after_first r n % 4) 2) [] (n / r ^ (4 * (digits_after_first r n / 4) + 2) ∷ [])
     (λ ys. quotients r left 2 (digits_after_first r left / 2) ≡ ys)
     (λ few.
@@ -55,7 +55,7 @@ two_notes {r} {n} {four} {left} two t =
 
 -- what both loops note, one after the other
 pub loop_notes-are : {r n four left_four by_two left_two : ℕ} {a b c : List ℕ}
-    → 2 ≤ r → TakesDigits r n 4 four left_four a b → TakesDigits r left_four 2 by_two left_two b c
+    → 2 ≤ r → RemovesDigits r n 4 four left_four a b → RemovesDigits r left_four 2 by_two left_two b c
     → c ≡ a ++ loop_notes r n
 unfolding loop_notes
 loop_notes-are {r} {n} {a = a} two t u =
@@ -65,22 +65,22 @@ loop_notes-are {r} {n} {a = a} two t u =
 
 -- the digits that the three loops remove, and the one that is left, are all digits of the number
 pub slow_count-is : {r n four left_four by_two left_two by_one left_one : ℕ} {a b c d : List ℕ}
-    → 2 ≤ r → TakesDigits r n 4 four left_four a b → TakesDigits r left_four 2 by_two left_two b c
-    → TakesDigits r left_two 1 by_one left_one c d → 1 + four + by_two + by_one ≡ digit_count r n
+    → 2 ≤ r → RemovesDigits r n 4 four left_four a b → RemovesDigits r left_four 2 by_two left_two b c
+    → RemovesDigits r left_two 1 by_one left_one c d → 1 + four + by_two + by_one ≡ digit_count r n
 slow_count-is {r} {left_two = left} two t u v =
-    omega (arith, v.count, TakesDigits-counts two t, TakesDigits-counts two u, digit_count-pos r left)
+    omega (arith, v.count, RemovesDigits-counts two t, RemovesDigits-counts two u, digit_count-pos r left)
 
 -- that loop has one iteration if the number of digits is even, and otherwise none
 last_notes : {r n four left_four by_two left_two : ℕ} {a b c : List ℕ}
-    → 2 ≤ r → TakesDigits r n 4 four left_four a b → TakesDigits r left_four 2 by_two left_two b c
+    → 2 ≤ r → RemovesDigits r n 4 four left_four a b → RemovesDigits r left_four 2 by_two left_two b c
     → quotients r left_two 1 (digits_after_first r left_two / 1)
     ≡ cond (eqb (digit_count r n % 2) 0) (n / r ^ digits_after_first r n ∷ []) []
 last_notes {r} {n} {four} {left_four} {by_two} {left_two} two t u =
     let counts : digit_count r left_two + (four + by_two) ≡ digit_count r n =
-    omega (arith, TakesDigits-counts two t, TakesDigits-counts two u) in
+    omega (arith, RemovesDigits-counts two t, RemovesDigits-counts two u) in
     let some = digit_count-pos r left_two in
     let even_taken : (four + by_two) % 2 ≡ 0 = omega (arith, t.count, u.count) in
-    let few : digit_count r left_two ≤ 2 = omega (arith, u.count, TakesDigits-counts two u) in
+    let few : digit_count r left_two ≤ 2 = omega (arith, u.count, RemovesDigits-counts two u) in
     let left_is : left_two ≡ n / r ^ (four + by_two) =
     u.rest ∙ ap (λ k. k / r ^ by_two) t.rest ∙ left_left r n four by_two in
     cond_both (eqb (digit_count r n % 2) 0) (n / r ^ digits_after_first r n ∷ []) []
@@ -96,8 +96,8 @@ last_notes {r} {n} {four} {left_four} {by_two} {left_two} two t u =
 
 -- what the three loops note, one after the other
 pub slow_notes-are : {r n four left_four by_two left_two by_one left_one : ℕ} {a b c d : List ℕ}
-    → 2 ≤ r → TakesDigits r n 4 four left_four a b → TakesDigits r left_four 2 by_two left_two b c
-    → TakesDigits r left_two 1 by_one left_one c d → d ≡ a ++ slow_notes r n
+    → 2 ≤ r → RemovesDigits r n 4 four left_four a b → RemovesDigits r left_four 2 by_two left_two b c
+    → RemovesDigits r left_two 1 by_one left_one c d → d ≡ a ++ slow_notes r n
 unfolding slow_notes
 slow_notes-are {r} {n} {a = a} two t u v =
     rw (v.notes, loop_notes-are two t u, last_notes two t u) (append_assoc a (loop_notes r n) _)
@@ -167,7 +167,7 @@ slow_notes-first r n two long = grind (arith, digit_count-split, loop_notes-firs
 -- ---- one digit per iteration
 
 -- a loop that removes single digits notes what the compact writer does
-pub compact_notes-are : {r n taken left : ℕ} {a b : List ℕ} → TakesDigits r n 1 taken left a b
+pub compact_notes-are : {r n taken left : ℕ} {a b : List ℕ} → RemovesDigits r n 1 taken left a b
     → b ≡ a ++ compact_notes r n
 unfolding compact_notes
 compact_notes-are {r} {n} {a = a} t = t.notes ∙ ap (λ k. a ++ quotients r n 1 k) (div-one (digits_after_first r n))

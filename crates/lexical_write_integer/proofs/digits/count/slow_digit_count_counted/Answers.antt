@@ -5,21 +5,21 @@ use Rattle.lexical_write_integer.proofs.OfDigits.Count.DigitCounts.{digit_count-
 use Rattle.lexical_write_integer.proofs.OfDigits.Radix.Loops.Notes.{slow_count-is, slow_notes-are, length-more}
 use Rattle.lexical_write_integer.proofs.OfDigits.Radix.Loops.Notes.{length-slow_notes}
 use Rattle.lexical_write_integer.proofs.digits.count.slow_digit_count_counted.Goals as goal
-use Rattle.lexical_write_integer.proofs.digits.count.slow_digit_count_counted.Goals.{After-take_digits-by_one}
+use Rattle.lexical_write_integer.proofs.digits.count.slow_digit_count_counted.Goals.{After-remove_digits_by-by_one}
 
-count_is : (g : _) (c : After-take_digits-by_one g)
-    → 1 + c.take_digits-left.result.1 + c.take_digits-left-2.result.1 + c.take_digits-by_one.result.1
+count_is : (g : _) (c : After-remove_digits_by-by_one g)
+    → 1 + c.remove_digits_by-left.result.1 + c.remove_digits_by-left-2.result.1 + c.remove_digits_by-by_one.result.1
     ≡ digit_count c.args.radix (g.T.UnsignedInteger.magnitude c.args.x)
-count_is g c = slow_count-is c.requires.at_least_two c.take_digits-left.ensures c.take_digits-left-2.ensures
-    c.take_digits-by_one.ensures
+count_is g c = slow_count-is c.requires.at_least_two c.remove_digits_by-left.ensures c.remove_digits_by-left-2.ensures
+    c.remove_digits_by-by_one.ensures
 
-notes_are : (g : _) (c : After-take_digits-by_one g)
-    → c.take_digits-by_one.new.turns ≡ c.args.turns.now
+notes_are : (g : _) (c : After-remove_digits_by-by_one g)
+    → c.remove_digits_by-by_one.new.turns ≡ c.args.turns.now
     ++ slow_notes c.args.radix (g.T.UnsignedInteger.magnitude c.args.x)
-notes_are g c = slow_notes-are c.requires.at_least_two c.take_digits-left.ensures c.take_digits-left-2.ensures
-    c.take_digits-by_one.ensures
+notes_are g c = slow_notes-are c.requires.at_least_two c.remove_digits_by-left.ensures c.remove_digits_by-left-2.ensures
+    c.remove_digits_by-by_one.ensures
 
-at_most_64 : (g : _) (c : After-take_digits-by_one g)
+at_most_64 : (g : _) (c : After-remove_digits_by-by_one g)
     → digit_count c.args.radix (g.T.UnsignedInteger.magnitude c.args.x) ≤ 64
 at_most_64 g c = digit_count-le_64 _ _ _ c.requires.at_least_two g.met.T.UnsignedInteger.range.width c.fits_bits.ensures
 

@@ -16,8 +16,8 @@ zeros_are zeros before written within is = is ∙ ap (λ n. replicate n 48) (len
 pub prove-unreachable-requires-2 : goal.prove-unreachable-requires-2
 prove-unreachable-requires-2 g c = grind (arith, digit_count-le)
 
-pub constant_radix-requires-clause-room : goal.constant_radix-requires-clause-room
-constant_radix-requires-clause-room g c = grind arith
+pub write_in_constant_radix-requires-clause-room : goal.write_in_constant_radix-requires-clause-room
+write_in_constant_radix-requires-clause-room g c = grind arith
 
 pub returns-clause-digits : goal.returns-clause-digits
 returns-clause-digits g c =
@@ -34,4 +34,4 @@ returns-clause-digits g c =
     Writes-after (replicate zeros 48) c.args.buffer.now _ _ zeros _ _ (sym long) front
     (λ text. IsPadded-digits c.args.radix (g.T.UnsignedInteger.magnitude c.args.value) zeros
     (length c.args.buffer.now) text c.requires.radix.at_least_two width)
-    c.constant_radix.ensures.digits.writes
+    c.write_in_constant_radix.ensures.digits.writes

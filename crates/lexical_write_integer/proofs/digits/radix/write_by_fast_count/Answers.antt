@@ -9,4 +9,4 @@ pub returns-else-number-from-clause-notes : goal.returns-else-number-from-clause
 returns-else-number-from-clause-notes g c =
     let old = c.args.turns.now in
     table_notes-are g.row.R c.args.number old old _ (none_noted g.row.R c.args.number old c.requires.fast_count)
-    c.write_after_count.ensures.notes_in_loop
+    c.count_then_write.ensures.notes_in_loop

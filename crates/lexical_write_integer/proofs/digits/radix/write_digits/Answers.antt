@@ -42,7 +42,7 @@ returns g c =
             rw w.loop_turns-is (rw none at all.notes_in_loop),
           )
       | else-number-fourth_power+else-number-eighth_power w ↦
-          let all = w.count_and_write_more.ensures in (
+          let all = w.count_and_write_above_eight.ensures in (
             rw (w.buffer-is, w.count-is) all.digits,
             rw w.turns-is (slow_noted r n old _ by_turns all.notes),
             rw w.loop_turns-is (rw none at all.notes_in_loop),

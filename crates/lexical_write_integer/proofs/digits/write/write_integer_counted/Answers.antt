@@ -16,21 +16,21 @@ returns-then-radix-eq10-clause-notes g c =
 
 pub returns-else-radix-eq10-clause-at_most : goal.returns-else-radix-eq10-clause-at_most
 returns-else-radix-eq10-clause-at_most g c =
-    WritesDigits-short c.radix_inlined.ensures.digits c.requires.radix.at_least_two g.met.T.UnsignedInteger.range.width
+    WritesDigits-short c.write_in_radix.ensures.digits c.requires.radix.at_least_two g.met.T.UnsignedInteger.range.width
     c.fits_bits.ensures
 
 -- the check finds this proof by itself, but with an answer the refusal of a mistake says what is wrong
 pub returns-else-radix-eq10-clause-notes : goal.returns-else-radix-eq10-clause-notes
 returns-else-radix-eq10-clause-notes g c =
-    rw (ne_eqb c.args.radix 10 c.if-radix-eq10.false) c.radix_inlined.ensures.notes
+    rw (ne_eqb c.args.radix 10 c.if-radix-eq10.false) c.write_in_radix.ensures.notes
 
 pub returns-else-radix-eq10-clause-turns : goal.returns-else-radix-eq10-clause-turns
 returns-else-radix-eq10-clause-turns g c =
     let other = ne_eqb c.args.radix 10 c.if-radix-eq10.false in
-    rw other (rw other at (table_turns-are _ _ _ _ _ c.radix_inlined.ensures.notes
-    c.radix_inlined.ensures.digits.count))
+    rw other (rw other at (table_turns-are _ _ _ _ _ c.write_in_radix.ensures.notes
+    c.write_in_radix.ensures.digits.count))
 
 pub returns-else-radix-eq10-clause-few_turns : goal.returns-else-radix-eq10-clause-few_turns
 returns-else-radix-eq10-clause-few_turns g c =
     table_turns-few _ _ _ _ _ c.requires.radix.at_least_two g.met.T.UnsignedInteger.range.width c.fits_bits.ensures
-    c.radix_inlined.ensures.notes
+    c.write_in_radix.ensures.notes

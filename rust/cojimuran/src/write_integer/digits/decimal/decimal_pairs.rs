@@ -6,7 +6,7 @@ use super::kernels::next2;
 use crate::write_integer::digits::pairs::RadixTable;
 
 // The digits of each number below 100, with a zero after a single one.
-const FIRST_PAIRS: [u8; 200] = *b"\
+const LEFT_ALIGNED_PAIRS: [u8; 200] = *b"\
     00102030405060708090\
     10111213141516171819\
     20212223242526272829\
@@ -23,7 +23,7 @@ const FIRST_PAIRS: [u8; 200] = *b"\
 #[track_caller]
 fn first_pair(pair: u32) -> (u8, u8) {
     let index = 2 * pair as usize;
-    (FIRST_PAIRS[index], FIRST_PAIRS[index + 1])
+    (LEFT_ALIGNED_PAIRS[index], LEFT_ALIGNED_PAIRS[index + 1])
 }
 
 /// Writes the one or two digits of a number below 100 to the start of the buffer, and returns how many
@@ -43,7 +43,7 @@ pub(crate) fn write_one_or_two(pair: u32, buffer: &mut [u8]) -> usize {
 // a single digit it writes a zero, which the next digits replace.
 #[inline(always)]
 #[track_caller]
-fn write_first(pair: u32, buffer: &mut [u8]) -> usize {
+fn write_first_pair(pair: u32, buffer: &mut [u8]) -> usize {
     let (first, second) = first_pair(pair);
     buffer[1] = second;
     buffer[0] = first;
@@ -56,7 +56,7 @@ fn write_first(pair: u32, buffer: &mut [u8]) -> usize {
 #[inline(always)]
 #[track_caller]
 pub(crate) fn write_pairs(fraction: u64, pair_count: usize, buffer: &mut [u8]) -> usize {
-    let mut count = write_first((fraction >> 32) as u32, buffer);
+    let mut count = write_first_pair((fraction >> 32) as u32, buffer);
     let table = RadixTable::<10>::new();
     let mut rest = fraction;
     for _ in 0..pair_count {

@@ -10,7 +10,7 @@ use crate::write_integer::digits::count::DigitCount;
 
 // Calls `write_digits` for a radix that is known only at run time.
 #[inline]
-fn write_digits_in<T: UnsignedInteger>(
+fn write_digits_in_radix<T: UnsignedInteger>(
     value: T,
     radix: u32,
     table: &[u8],
@@ -41,5 +41,5 @@ pub fn algorithm<T: DigitCount>(value: T, radix: u32, table: &[u8], buffer: &mut
         begins_with_pairs(radix, table),
         "the table does not begin with the digit pairs of the radix"
     );
-    write_digits_in(value, radix, table, buffer)
+    write_digits_in_radix(value, radix, table, buffer)
 }

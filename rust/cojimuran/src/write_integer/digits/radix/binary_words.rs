@@ -2,7 +2,7 @@
 
 // Writing binary digits, eight at a time, as the bytes of a word.
 
-use super::count_first_writer::count_of_nonzero;
+use super::count_then_write::count_of_nonzero;
 use super::steps::remove_four;
 
 // Writes the eight binary digits of a number below 256 at index `at`. Each byte of the product is the number, of which

@@ -1,4 +1,4 @@
-// Made by `strip` from crates/lexical_write_integer/src/digits/radix/count_first_writer.rt. Edit that file, not this one.
+// Made by `strip` from crates/lexical_write_integer/src/digits/radix/count_then_write.rt. Edit that file, not this one.
 
 // Counting the digits of a number, and then writing them, four at a time: for numbers of one or two digits, and for the
 // radices in which a count needs no division.
@@ -102,7 +102,7 @@ fn write_up_to_four<const R: u32>(
 // that the number takes no register in it.
 #[inline(always)]
 #[track_caller]
-pub(super) fn write_after_count<const R: u32>(
+pub(super) fn count_then_write<const R: u32>(
     value: u64,
     table: RadixTable<'_, R>,
     buffer: &mut [u8],

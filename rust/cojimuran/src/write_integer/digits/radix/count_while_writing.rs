@@ -1,4 +1,4 @@
-// Made by `strip` from crates/lexical_write_integer/src/digits/radix/counting_writer.rt. Edit that file, not this one.
+// Made by `strip` from crates/lexical_write_integer/src/digits/radix/count_while_writing.rt. Edit that file, not this one.
 
 // Counting the digits of a number by division, and writing them from the same quotients: for the radices in which a
 // count needs divisions.
@@ -79,7 +79,7 @@ fn count_and_write_up_to_eight<const R: u32>(
 // Counts more than eight digits by division, and writes them: those before the last eight first, since only then the
 // index of the last eight is known.
 #[inline]
-pub(super) fn count_and_write_more<const R: u32>(
+pub(super) fn count_and_write_above_eight<const R: u32>(
     value: u64,
     table: RadixTable<'_, R>,
     buffer: &mut [u8],
@@ -89,7 +89,7 @@ pub(super) fn count_and_write_more<const R: u32>(
     let head = if second < eighth_power(R) {
         count_and_write_up_to_eight(second, table, buffer)
     } else {
-        count_and_write_more(second, table, buffer)
+        count_and_write_above_eight(second, table, buffer)
     };
     write_four(last_four::<R>(first), table, buffer, head);
     write_four(last_four::<R>(value), table, buffer, head + 4);

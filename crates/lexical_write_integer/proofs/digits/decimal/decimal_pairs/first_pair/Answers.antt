@@ -4,14 +4,14 @@ use Rattle.std.specs.Prelude.{if◌then◌else◌, ◌==◌, nat_lt}
 use Rattle.std.proofs.lemmas.Bool.{le-ltb}
 use Rattle.std.proofs.lemmas.List.FromFn.{get_or-map-range_with_len}
 use Rattle.lexical_num.specs.Digit.{digit_char}
-use Rattle.lexical_write_integer.specs.declared.digits.decimal.decimal_pairs.TheConstants.{FIRST_PAIRS}
+use Rattle.lexical_write_integer.specs.declared.digits.decimal.decimal_pairs.TheConstants.{LEFT_ALIGNED_PAIRS}
 use Rattle.lexical_write_integer.proofs.digits.decimal.decimal_pairs.first_pair.Goals as goal
 
 -- the digit at an index of the table: of the number at half the index
 digit_at : ℕ → ℕ
 digit_at i = if i % 2 == 0 then (if nat_lt i 20 then i / 2 else i / 20) else (if nat_lt i 20 then 0 else i / 2 % 10)
 
-entry : (i : ℕ) → i < 200 → get_or FIRST_PAIRS i 0 ≡ digit_char (digit_at i)
+entry : (i : ℕ) → i < 200 → get_or LEFT_ALIGNED_PAIRS i 0 ≡ digit_char (digit_at i)
 unfolding digit_at
 entry i within = get_or-map-range_with_len (λ j. digit_char (digit_at j)) 0 200 i i 0 within (omega arith)
 

@@ -1,7 +1,7 @@
 use Rattle.std.proofs.Common.{◌≡◌, ℕ, ◌+◌, ◌<◌, ◌≤◌, [], ◌∷◌, List, Bool, true, false, length, set, leb, refl, arith}
 use Rattle.lexical_write_integer.specs.Buffer.{WritesDigits}
 use Rattle.lexical_write_integer.proofs.OfDigits.Decimal.FirstPairs.{IsFirstPair, WritesDigits-one, WritesDigits-two}
-use Rattle.lexical_write_integer.proofs.digits.decimal.decimal_pairs.write_first.Goals as goal
+use Rattle.lexical_write_integer.proofs.digits.decimal.decimal_pairs.write_first_pair.Goals as goal
 use mir.Val.{bool_byte}
 
 -- the digits of the first pair, where a single digit is written over the zero after it

@@ -16,8 +16,8 @@ products-more fraction i = map-range_with_len_more (λ j. fraction * 100 ^ j % 2
 length-products : (fraction pairs : ℕ) → length (products fraction pairs) ≡ pairs
 length-products fraction pairs = length-map-range_with_len (λ j. fraction * 100 ^ j % 2 ^ 32 * 100) 0 pairs
 
-pub write_first-count-requires-clause-room : goal.write_first-count-requires-clause-room
-write_first-count-requires-clause-room c =
+pub write_first_pair-count-requires-clause-room : goal.write_first_pair-count-requires-clause-room
+write_first_pair-count-requires-clause-room c =
     let room = room_for_carried c.args.fraction 1 c.args.pair_count _ c.requires.some c.requires.room in
     omega (arith, room, digit_count-carried c.args.fraction 0 c.requires.first)
 
@@ -37,7 +37,7 @@ loop-preserved c =
     c.requires.room in
     record {
       following = rw c.next2-pair.ensures.product (rest-more c.args.fraction c.loop.counter _ done.following);
-      digits = WritesDigits-pair _ _ c.requires.first (rw c.write_first-count.auto.buffer room)
+      digits = WritesDigits-pair _ _ c.requires.first (rw c.write_first_pair-count.auto.buffer room)
           pair done.digits c.write.ensures;
       notes = let more = products-more c.args.fraction c.loop.counter in grind (arith, append_assoc);
       count = omega arith;
@@ -49,7 +49,7 @@ returns c =
     let longer = ap length c.loop.invariant.notes
     ∙ length-append c.args.turns.now (products c.args.fraction c.loop.counter) in
     let digits = rw all at c.loop.invariant.digits in
-    let first = c.write_first-count in
+    let first = c.write_first_pair-count in
     let several : 2 ≤ c.loop.count = omega (arith, c.loop.invariant.count, first.ensures.some, c.requires.some) in
     record {
       digits = record {

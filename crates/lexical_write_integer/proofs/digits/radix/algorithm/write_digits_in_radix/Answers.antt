@@ -1,6 +1,6 @@
 -- in the other arms the search finds it: here the table is too long for the numbers that it compares
 use Rattle.lexical_write_integer.proofs.OfDigits.Radix.TablePairs.{begins_in_arm}
-use Rattle.lexical_write_integer.proofs.digits.radix.algorithm.write_digits_in.Goals as goal
+use Rattle.lexical_write_integer.proofs.digits.radix.algorithm.write_digits_in_radix.Goals as goal
 
 pub write_digits-requires-in-23-clause-table : goal.write_digits-requires-in-23-clause-table
 write_digits-requires-in-23-clause-table g c = begins_in_arm c.requires.table c.in-23.is

@@ -9,7 +9,7 @@ use Rattle.lexical_write_integer.proofs.Buffers.Blocks.{IsWrittenBack-more, IsWr
 use Rattle.lexical_write_integer.proofs.Buffers.Blocks.{WritesBlock-one}
 use Rattle.lexical_write_integer.proofs.OfDigits.Count.DigitCounts.{digit_count-one}
 use Rattle.lexical_write_integer.proofs.OfDigits.Radix.Loops.Divisions.{IsDivided-start, IsDivided-room, IsDivided-more}
-use Rattle.lexical_write_integer.proofs.OfDigits.Radix.Loops.Divisions.{TakesDigits-end}
+use Rattle.lexical_write_integer.proofs.OfDigits.Radix.Loops.Divisions.{RemovesDigits-end}
 use Rattle.lexical_write_integer.proofs.OfDigits.Radix.Loops.Notes.{compact_notes-are}
 use Rattle.lexical_write_integer.proofs.OfDigits.Powers.{pow-one}
 use Rattle.lexical_write_integer.proofs.digits.radix.compact.write_to_end.Goals as goal
@@ -76,5 +76,5 @@ returns-clause-digits g c =
 
 pub returns-clause-notes : goal.returns-clause-notes
 returns-clause-notes g c =
-    compact_notes-are (TakesDigits-end c.requires.radix.at_least_two takes_one c.loop-left.invariant.divided
+    compact_notes-are (RemovesDigits-end c.requires.radix.at_least_two takes_one c.loop-left.invariant.divided
     (rw pow-one (omega arith)))

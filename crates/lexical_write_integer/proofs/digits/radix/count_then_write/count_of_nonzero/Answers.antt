@@ -6,8 +6,8 @@ use Rattle.lexical_write_integer.specs.Logarithm.{IsLog2}
 use Rattle.lexical_write_integer.proofs.OfDigits.Count.Logarithms.{IsGreatestPower-between, digit_count-log2}
 use Rattle.lexical_write_integer.proofs.OfDigits.Powers.{pow-one}
 use Rattle.lexical_write_integer.proofs.OfDigits.Radix.FirstDigits.{power_of_two}
-use Rattle.lexical_write_integer.proofs.digits.radix.count_first_writer.count_of_nonzero.Goals as goal
-use Rattle.lexical_write_integer.proofs.digits.radix.count_first_writer.count_of_nonzero.Goals.{After-ilog2-log2}
+use Rattle.lexical_write_integer.proofs.digits.radix.count_then_write.count_of_nonzero.Goals as goal
+use Rattle.lexical_write_integer.proofs.digits.radix.count_then_write.count_of_nonzero.Goals.{After-ilog2-log2}
 
 -- at least one bit is in a digit
 some_bits : (c : After-ilog2-log2) → 0 < c.fast_log2-bits.result

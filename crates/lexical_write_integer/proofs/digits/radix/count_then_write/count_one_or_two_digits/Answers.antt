@@ -3,7 +3,7 @@ use Rattle.std.proofs.lemmas.Bool.{leb-true, leb-false}
 use Rattle.lexical_write_integer.proofs.OfDigits.Count.DigitCounts.{digit_count-tested}
 use Rattle.lexical_write_integer.proofs.OfDigits.Powers.{pow-one}
 use Rattle.lexical_write_integer.proofs.OfDigits.Radix.Loops.Notes.{none_noted, slow_noted}
-use Rattle.lexical_write_integer.proofs.digits.radix.count_first_writer.count_one_or_two_digits.Goals as goal
+use Rattle.lexical_write_integer.proofs.digits.radix.count_then_write.count_one_or_two_digits.Goals as goal
 
 pub returns-then-has_fast_count-clause-count : goal.returns-then-has_fast_count-clause-count
 returns-then-has_fast_count-clause-count c =

@@ -8,11 +8,11 @@ use Rattle.lexical_write_integer.proofs.OfDigits.Count.DigitCounts.{digit_count-
 use Rattle.lexical_write_integer.proofs.OfDigits.Radix.FirstDigits.{WritesBlock-first, first_four, shift-lt}
 use Rattle.lexical_write_integer.proofs.OfDigits.Radix.Loops.ShortNumbers.{fits-within, longer-than}
 use Rattle.lexical_write_integer.proofs.OfDigits.Count.RadixPowers.{power-small}
-use Rattle.lexical_write_integer.proofs.digits.radix.count_first_writer.write_after_count.Goals as goal
-use Rattle.lexical_write_integer.proofs.digits.radix.count_first_writer.write_after_count.Goals.{After-count_of_nonzero-count}
-use Rattle.lexical_write_integer.proofs.digits.radix.count_first_writer.write_after_count.Goals.{In-loop-at, After-loop-at}
-use Rattle.lexical_write_integer.proofs.digits.radix.count_first_writer.write_after_count.Goals.{Then-bits-2, then-bits}
-use Rattle.lexical_write_integer.proofs.digits.radix.count_first_writer.write_after_count.Goals.{else-bits}
+use Rattle.lexical_write_integer.proofs.digits.radix.count_then_write.count_then_write.Goals as goal
+use Rattle.lexical_write_integer.proofs.digits.radix.count_then_write.count_then_write.Goals.{After-count_of_nonzero-count}
+use Rattle.lexical_write_integer.proofs.digits.radix.count_then_write.count_then_write.Goals.{In-loop-at, After-loop-at}
+use Rattle.lexical_write_integer.proofs.digits.radix.count_then_write.count_then_write.Goals.{Then-bits-2, then-bits}
+use Rattle.lexical_write_integer.proofs.digits.radix.count_then_write.count_then_write.Goals.{else-bits}
 
 -- in an iteration more than four digits are left
 long : (g : _) (c : In-loop-at g) → g.row.R ^ 4 ≤ c.loop-at.left

@@ -1,7 +1,7 @@
 use Rattle.std.proofs.Common.{◌≡◌, ◌-◌, ◌++◌, ◌≤◌, length}
 use Rattle.lexical_write_integer.specs.LoopTurns.{loop_notes}
 use Rattle.lexical_write_integer.proofs.Buffers.Blocks.{IsWrittenBack}
-use Rattle.lexical_write_integer.proofs.digits.radix.count_first_writer.write_after_count.Given as goal
+use Rattle.lexical_write_integer.proofs.digits.radix.count_then_write.count_then_write.Given as goal
 
 abbrev pub invariant-loop-at : goal.invariant-loop-at
 invariant-loop-at g l = record {

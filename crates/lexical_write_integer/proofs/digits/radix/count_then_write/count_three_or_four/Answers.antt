@@ -2,7 +2,7 @@ use Rattle.std.proofs.Common.{◌*◌, leb, arith}
 use Rattle.std.proofs.lemmas.Bool.{leb-true, leb-false}
 use Rattle.lexical_write_integer.proofs.OfDigits.Count.DigitCounts.{digit_count-tested}
 use Rattle.lexical_write_integer.proofs.OfDigits.Powers.{pow-three}
-use Rattle.lexical_write_integer.proofs.digits.radix.count_first_writer.count_three_or_four.Goals as goal
+use Rattle.lexical_write_integer.proofs.digits.radix.count_then_write.count_three_or_four.Goals as goal
 
 pub returns-clause-count : goal.returns-clause-count
 returns-clause-count c =

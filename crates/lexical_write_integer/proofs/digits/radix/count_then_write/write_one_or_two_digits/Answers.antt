@@ -1,7 +1,7 @@
 use Rattle.std.proofs.Common.{◌^◌, ◌<◌}
 use Rattle.lexical_write_integer.proofs.OfDigits.Powers.{pow-two}
 use Rattle.lexical_write_integer.proofs.OfDigits.Radix.Loops.Notes.{loop_notes-none, table_notes-are}
-use Rattle.lexical_write_integer.proofs.digits.radix.count_first_writer.write_one_or_two_digits.Goals as goal
+use Rattle.lexical_write_integer.proofs.digits.radix.count_then_write.write_one_or_two_digits.Goals as goal
 
 -- the writer's loop notes nothing
 pub returns-clause-notes : goal.returns-clause-notes

@@ -12,9 +12,9 @@ use Rattle.lexical_write_integer.proofs.OfDigits.Count.DigitCounts.{digit_count-
 use Rattle.lexical_write_integer.proofs.OfDigits.Count.RadixPowers.{power-gt_one, power-small}
 use Rattle.lexical_write_integer.proofs.OfDigits.Powers.{pow-one, pow-two, pow-four}
 use Rattle.lexical_write_integer.proofs.OfDigits.Radix.TablePairs.{length-table, pair_first, pair_second}
-use Rattle.lexical_write_integer.proofs.digits.radix.count_first_writer.write_three_or_four.Goals as goal
-use Rattle.lexical_write_integer.proofs.digits.radix.count_first_writer.write_three_or_four.Goals.{Start}
-use Rattle.lexical_write_integer.proofs.digits.radix.count_first_writer.write_three_or_four.Goals.{After-count_three_or_four-count}
+use Rattle.lexical_write_integer.proofs.digits.radix.count_then_write.write_three_or_four.Goals as goal
+use Rattle.lexical_write_integer.proofs.digits.radix.count_then_write.write_three_or_four.Goals.{Start}
+use Rattle.lexical_write_integer.proofs.digits.radix.count_then_write.write_three_or_four.Goals.{After-count_three_or_four-count}
 
 some : (g : _) (c : Start g) → 0 < g.row.R * g.row.R
 some g c = omega (arith, pow-two g.row.R, power-gt_one g.row.R 2 c.args.table.is_radix.at_least_two takes_two)

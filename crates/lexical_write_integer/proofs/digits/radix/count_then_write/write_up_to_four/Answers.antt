@@ -2,8 +2,8 @@ use Rattle.std.proofs.Common.{◌*◌, ◌<◌, ◌^◌, lit<, arith}
 use Rattle.lexical_write_integer.proofs.OfDigits.Powers.{pow-two}
 use Rattle.lexical_write_integer.proofs.OfDigits.Radix.Loops.Notes.{loop_notes-none}
 use Rattle.lexical_write_integer.proofs.OfDigits.Radix.Loops.ShortNumbers.{fits-within, longer-than}
-use Rattle.lexical_write_integer.proofs.digits.radix.count_first_writer.write_up_to_four.Goals as goal
-use Rattle.lexical_write_integer.proofs.digits.radix.count_first_writer.write_up_to_four.Goals.{Else-digits-gt2}
+use Rattle.lexical_write_integer.proofs.digits.radix.count_then_write.write_up_to_four.Goals as goal
+use Rattle.lexical_write_integer.proofs.digits.radix.count_then_write.write_up_to_four.Goals.{Else-digits-gt2}
 
 pub write_three_or_four-requires : goal.write_three_or_four-requires
 write_three_or_four-requires g c =

@@ -4,9 +4,9 @@ use Rattle.lexical_write_integer.specs.Buffer.{WritesDigits}
 use Rattle.lexical_write_integer.proofs.Buffers.BlocksAfter.{WritesDigits-after}
 use Rattle.lexical_write_integer.proofs.OfDigits.Radix.Loops.Notes.{slow_notes-after}
 use Rattle.lexical_write_integer.proofs.OfDigits.Radix.Loops.ShortNumbers.{HasEight-of}
-use Rattle.lexical_write_integer.proofs.digits.radix.counting_writer.+count_and_write_more.Goals as goal
-use Rattle.lexical_write_integer.proofs.digits.radix.counting_writer.+count_and_write_more.Goals.{then-second-eighth_power}
-use Rattle.lexical_write_integer.proofs.digits.radix.counting_writer.+count_and_write_more.Goals.{else-second-eighth_power}
+use Rattle.lexical_write_integer.proofs.digits.radix.count_while_writing.+count_and_write_above_eight.Goals as goal
+use Rattle.lexical_write_integer.proofs.digits.radix.count_while_writing.+count_and_write_above_eight.Goals.{then-second-eighth_power}
+use Rattle.lexical_write_integer.proofs.digits.radix.count_while_writing.+count_and_write_above_eight.Goals.{else-second-eighth_power}
 
 pub remove_four-first-requires-clause-long : goal.remove_four-first-requires-clause-long
 remove_four-first-requires-clause-long g t c = (HasEight-of c.args.table.is_radix.at_least_two c.requires.long).value
@@ -26,7 +26,7 @@ returns-clause-digits g t c =
     let before : WritesDigits r c.remove_four-second.result c.args.buffer.now c.if-second-eighth_power.buffer head =
     elim c.if-second-eighth_power.branch [
       | then-second-eighth_power w ↦ rw (w.buffer-is, w.head-is) w.count_and_write_up_to_eight-head.ensures.digits
-      | else-second-eighth_power w ↦ rw (w.buffer-is, w.head-is) w.count_and_write_more-head.ensures.digits
+      | else-second-eighth_power w ↦ rw (w.buffer-is, w.head-is) w.count_and_write_above_eight-head.ensures.digits
     ] in
     let total : head + 4 + 4 ≡ head + 8 = omega arith in
     let four =
@@ -45,6 +45,6 @@ returns-clause-notes_in_loop g t c =
     ++ loop_notes g.row.R c.remove_four-second.result =
     elim c.if-second-eighth_power.branch [
       | then-second-eighth_power w ↦ rw w.loop_turns-is w.count_and_write_up_to_eight-head.ensures.notes_in_loop
-      | else-second-eighth_power w ↦ rw w.loop_turns-is w.count_and_write_more-head.ensures.notes_in_loop
+      | else-second-eighth_power w ↦ rw w.loop_turns-is w.count_and_write_above_eight-head.ensures.notes_in_loop
     ] in
     before ∙ c.remove_four-second.ensures.notes_in_loop ∙ c.remove_four-first.ensures.notes_in_loop

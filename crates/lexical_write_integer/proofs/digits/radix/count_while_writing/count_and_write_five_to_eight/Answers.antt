@@ -5,9 +5,9 @@ use Rattle.lexical_write_integer.specs.LoopTurns.{takes_four}
 use Rattle.lexical_write_integer.proofs.Buffers.BlocksAfter.{WritesDigits-after}
 use Rattle.lexical_write_integer.proofs.OfDigits.Count.RadixPowers.{power-small, power-gt_one}
 use Rattle.lexical_write_integer.proofs.OfDigits.Radix.Loops.Notes.{slow_notes-after}
-use Rattle.lexical_write_integer.proofs.digits.radix.counting_writer.count_and_write_five_to_eight.Goals as goal
-use Rattle.lexical_write_integer.proofs.digits.radix.counting_writer.count_and_write_five_to_eight.Goals.{After-remove_four-left}
-use Rattle.lexical_write_integer.proofs.digits.radix.counting_writer.count_and_write_five_to_eight.Goals.{After-fourth_power}
+use Rattle.lexical_write_integer.proofs.digits.radix.count_while_writing.count_and_write_five_to_eight.Goals as goal
+use Rattle.lexical_write_integer.proofs.digits.radix.count_while_writing.count_and_write_five_to_eight.Goals.{After-remove_four-left}
+use Rattle.lexical_write_integer.proofs.digits.radix.count_while_writing.count_and_write_five_to_eight.Goals.{After-fourth_power}
 
 -- the number without its last four digits has at most four
 left_short : (g : _) (c : After-remove_four-left g) → c.remove_four-left.result < g.row.R ^ 4

@@ -1,7 +1,7 @@
 use Rattle.std.proofs.Common.{arith}
 use Rattle.lexical_write_integer.specs.LoopTurns.{takes_four}
 use Rattle.lexical_write_integer.proofs.OfDigits.Count.RadixPowers.{power-small}
-use Rattle.lexical_write_integer.proofs.digits.radix.counting_writer.count_and_write_up_to_eight.Goals as goal
+use Rattle.lexical_write_integer.proofs.digits.radix.count_while_writing.count_and_write_up_to_eight.Goals as goal
 
 pub overflow_cast-value : goal.overflow_cast-value
 overflow_cast-value g c =

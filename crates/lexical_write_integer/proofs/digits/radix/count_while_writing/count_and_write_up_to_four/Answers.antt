@@ -10,8 +10,8 @@ use Rattle.lexical_write_integer.proofs.OfDigits.Count.RadixPowers.{power-gt_one
 use Rattle.lexical_write_integer.proofs.OfDigits.Powers.{pow-two, pow-four}
 use Rattle.lexical_write_integer.proofs.OfDigits.Radix.Loops.Notes.{slow_notes-pair}
 use Rattle.lexical_write_integer.proofs.OfDigits.Radix.Loops.ShortNumbers.{quotient-some}
-use Rattle.lexical_write_integer.proofs.digits.radix.counting_writer.count_and_write_up_to_four.Goals as goal
-use Rattle.lexical_write_integer.proofs.digits.radix.counting_writer.count_and_write_up_to_four.Goals.{After-count_and_write_one_or_two-head}
+use Rattle.lexical_write_integer.proofs.digits.radix.count_while_writing.count_and_write_up_to_four.Goals as goal
+use Rattle.lexical_write_integer.proofs.digits.radix.count_while_writing.count_and_write_up_to_four.Goals.{After-count_and_write_one_or_two-head}
 
 -- the number has more than two digits if its first pair is not 0
 long : (r n pair : _) → pair ≡ n / (r * r) → 0 < pair → r ^ 2 ≤ n

@@ -1,7 +1,7 @@
 use Rattle.std.proofs.Common.{sym, arith}
 use Rattle.std.proofs.Math.Nat.{pow-le-pow_left}
 use Rattle.lexical_write_integer.proofs.OfDigits.Powers.{pow-eight}
-use Rattle.lexical_write_integer.proofs.digits.radix.counting_writer.eighth_power.Goals as goal
+use Rattle.lexical_write_integer.proofs.digits.radix.count_while_writing.eighth_power.Goals as goal
 
 pub overflow_mul-result : goal.overflow_mul-result
 overflow_mul-result c = grind (arith, pow-eight, pow-le-pow_left)

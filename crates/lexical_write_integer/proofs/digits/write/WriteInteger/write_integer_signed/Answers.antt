@@ -9,7 +9,7 @@ returns-then-radix-eq10-clause-at_most g c =
 
 pub returns-else-radix-eq10-clause-at_most : goal.returns-else-radix-eq10-clause-at_most
 returns-else-radix-eq10-clause-at_most g c =
-    WritesDigits-short c.radix_inlined.ensures.digits c.requires.radix.at_least_two
+    WritesDigits-short c.write_in_radix.ensures.digits c.requires.radix.at_least_two
     g.met.Self.UnsignedInteger.range.width c.fits_bits.ensures
 
 -- the check finds this proof by itself, but with an answer the refusal of a mistake says what is wrong
