@@ -69,7 +69,7 @@ pub(crate) fn function(tokens: &[Token], at: usize) -> Option<Function> {
 }
 
 /// Returns the names of all functions and constants.
-pub(crate) fn names(tokens: &[Token]) -> impl Iterator<Item = &String> {
+pub(crate) fn declared_names(tokens: &[Token]) -> impl Iterator<Item = &String> {
     let is_name = |pair: &&[Token]| pair[0].is_in(&["fn", "const"]) && pair[1].is_word() && pair[1] != "fn";
     tokens.windows(2).filter(is_name).map(|pair| &pair[1].text)
 }

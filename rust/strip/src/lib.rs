@@ -112,7 +112,7 @@ fn files_of_sources(repository: &Repository, is_source: impl Fn(&Source) -> bool
 /// Returns the code that is made of a file, to whose tokens the rules are applied. An error begins with the line.
 fn translated(file: &File, Repository { laws, pages, .. }: &Repository) -> Result<String, String> {
     let mut code = file.tokens.clone();
-    left_out::without_items(&mut code, &file.source.modules(), laws);
+    left_out::without_items(&mut code, &file.source.modules_left_out(), laws);
     counters::without_counters(&mut code, laws);
     counters::without_counted(&mut code);
     additions::add(&mut code, file, pages)?;

@@ -137,19 +137,3 @@ pub(crate) const RULES: &[(&str, &[(&str, &str)])] = &[
         ],
     ),
 ];
-
-/// What rustc says of a type that does not implement a trait. Rattle does not know such attributes.
-pub(crate) const NO_INTEGER: &str = r#"#[diagnostic::on_unimplemented(
-message = "`{Self}` is not an integer type that this crate writes",
-note = "it writes `u8` to `u64`, `usize`, `i8` to `i64` and `isize`; `Displayed(&value)` writes what has `Display`")]"#;
-pub(crate) const NOT_UNSIGNED: &str = r#"#[diagnostic::on_unimplemented(
-message = "`{Self}` is not an unsigned integer type that this crate writes",
-note = "a literal needs a type, such as `255u8`; a signed number in a radix is written by `Formatted`")]"#;
-pub(crate) const NO_PART: &str = r#"#[diagnostic::on_unimplemented(
-message = "`{Self}` is not a part",
-note = "a value with `Display` is a part as `Displayed(&value)`; a tuple has 2 to 12 members; \
-    references to a `String` need the feature `alloc`")]"#;
-pub(crate) const NO_SHOW: &str = r#"#[diagnostic::on_unimplemented(
-message = "`{Self}` is not a part with `Show`",
-note = "a value with `Display` is a part as `Displayed(&value)`; implement `Show` for a part of your own; \
-    a tuple has 2 to 12 members")]"#;

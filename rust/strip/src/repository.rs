@@ -1,7 +1,7 @@
 //! Reads the crates of the repository, and checks that each rule and each name of a list is for something in them.
 
 use crate::files::{files_of, read};
-use crate::items::names;
+use crate::items::declared_names;
 use crate::left_out::Names;
 use crate::rules::{Rule, lex_and_apply};
 use crate::sources::Source;
@@ -40,7 +40,7 @@ impl File {
     }
 
     /// Returns what a list can name: the file, its module, and each of its words, alone or as `FILE:NAME`.
-    fn names(&self) -> impl Iterator<Item = String> {
+    fn names_for_lists(&self) -> impl Iterator<Item = String> {
         let words = self.tokens.iter().flat_map(|token| [token.text.clone(), format!("{}:{}", self.name, token.text)]);
         words.chain([self.name.clone(), self.name.trim_end_matches(".rt").to_owned()])
     }
@@ -59,11 +59,13 @@ impl Repository {
             let mut known = Names::new();
             for path in files_of(top, &source.folder_of_crate(), "rt")? {
                 let file = File::read(top, source, &path, &mut rules)?;
-                repository.laws.extend(names(&file.tokens).filter(|law| source.is_law(law, &file.name)).cloned());
-                known.extend(file.names());
+                repository
+                    .laws
+                    .extend(declared_names(&file.tokens).filter(|law| source.is_law(law, &file.name)).cloned());
+                known.extend(file.names_for_lists());
                 repository.files.push(file);
             }
-            if let Some(name) = source.names().find(|name| !known.contains(*name)) {
+            if let Some(name) = source.listed_names().find(|name| !known.contains(*name)) {
                 return Err(format!("{}: it has no {name}", source.name));
             }
         }

@@ -1,6 +1,5 @@
 //! Which crate becomes which files, and what the files have that the crate does not say.
 
-use crate::replacements::{NO_INTEGER, NO_PART, NO_SHOW, NOT_UNSIGNED};
 use std::path::{Path, PathBuf};
 
 /// A crate of Rattle, and the files that are made of it. rustc checks what is added. White space parts the names of a
@@ -36,7 +35,7 @@ impl Source {
     }
 
     /// Returns the names of the modules of which nothing is made.
-    pub fn modules(&self) -> Vec<&'static str> {
+    pub fn modules_left_out(&self) -> Vec<&'static str> {
         let modules = [self.left_out, self.laws].into_iter().flat_map(str::split_whitespace);
         modules.map(|path| path.rsplit('/').next().unwrap_or_default()).collect()
     }
@@ -48,14 +47,14 @@ impl Source {
     }
 
     /// Returns the names of functions, files and modules that the lists have.
-    pub fn names(&self) -> impl Iterator<Item = &'static str> {
+    pub fn listed_names(&self) -> impl Iterator<Item = &'static str> {
         let attributes = self.attributes.iter().map(|(_, names)| *names);
         attributes.chain([self.left_out, self.laws]).flat_map(str::split_whitespace)
     }
 
     /// Returns whether a function of a file is a law.
     pub fn is_law(&self, name: &str, file: &str) -> bool {
-        has(self.laws, name) || is_in(file, self.laws)
+        has(self.laws, name) || is_of_module(file, self.laws)
     }
 
     /// Returns whether the made files are committed. The others are made when cargo builds their package.
@@ -73,7 +72,7 @@ impl Source {
     pub fn path_of_made(&self, file: &str) -> Option<PathBuf> {
         let folder = Path::new("rust").join(self.package).join("src");
         match file {
-            _ if is_in(file, self.left_out) || is_in(file, self.laws) => None,
+            _ if is_of_module(file, self.left_out) || is_of_module(file, self.laws) => None,
             _ if !self.is_committed() => Some(Path::new(self.name).join(file).with_extension("rs")),
             "lib.rt" if self.module.is_empty() => None,
             "lib.rt" => Some(folder.join(self.module).with_extension("rs")),
@@ -83,7 +82,7 @@ impl Source {
 }
 
 /// Returns whether a file is of one of these modules.
-fn is_in(file: &str, modules: &str) -> bool {
+fn is_of_module(file: &str, modules: &str) -> bool {
     let is_of = |module: &str| file.strip_prefix(module).is_some_and(|rest| rest.starts_with(['.', '/']));
     modules.split_whitespace().any(is_of)
 }
@@ -93,13 +92,30 @@ fn has(list: &str, name: &str) -> bool {
     list.split_whitespace().any(|listed| listed == name)
 }
 
+/// What the crates of the library are made into.
 const LIBRARY: Source = Source { name: "", package: "cojimuran", module: "", attributes: &[], left_out: "", laws: "" };
 
-/// The lines of the program.
+/// What the crates of the program are made into.
 const PROGRAM: Source = Source { package: "lexwrite", ..LIBRARY };
 
-/// What calls the libraries as the repository's tests do.
+/// What the crates that only test are made into.
 const TESTS: Source = Source { package: "repository_tests", ..LIBRARY };
+
+/// What rustc says of a type that does not implement a trait. Rattle does not know such attributes.
+const NO_INTEGER: &str = r#"#[diagnostic::on_unimplemented(
+message = "`{Self}` is not an integer type that this crate writes",
+note = "it writes `u8` to `u64`, `usize`, `i8` to `i64` and `isize`; `Displayed(&value)` writes what has `Display`")]"#;
+const NOT_UNSIGNED: &str = r#"#[diagnostic::on_unimplemented(
+message = "`{Self}` is not an unsigned integer type that this crate writes",
+note = "a literal needs a type, such as `255u8`; a signed number in a radix is written by `Formatted`")]"#;
+const NO_PART: &str = r#"#[diagnostic::on_unimplemented(
+message = "`{Self}` is not a part",
+note = "a value with `Display` is a part as `Displayed(&value)`; a tuple has 2 to 12 members; \
+    references to a `String` need the feature `alloc`")]"#;
+const NO_SHOW: &str = r#"#[diagnostic::on_unimplemented(
+message = "`{Self}` is not a part with `Show`",
+note = "a value with `Display` is a part as `Displayed(&value)`; implement `Show` for a part of your own; \
+    a tuple has 2 to 12 members")]"#;
 
 /// The crates of which files are made.
 pub(crate) const SOURCES: &[Source] = &[

@@ -112,7 +112,7 @@ fn a_law_in_a_statement_that_does_more_is_refused() {
 }
 
 #[test]
-fn ghosts_are_left_out() {
+fn counters_are_left_out() {
     becomes("struct S { a: u8, trace: Trace }", "struct S { a: u8 }");
     becomes("fn f() -> S { S { a, trace: Trace::new() } }", "#[inline] fn f() -> S { S { a } }");
     body_becomes("turns.tick(1); self.trace.note(&a); b", "b");
