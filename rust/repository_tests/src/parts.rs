@@ -6,7 +6,8 @@ use cojimuran::{NumberFormat, NumberFormatBuilder};
 #[derive(Clone, Copy)]
 pub struct Values<'a> {
     pub bits: u64,
-    pub few: u64,
+    /// For what is not to be large, such as a radix, a count or an exponent.
+    pub small: u64,
     pub width: usize,
     pub fill: u8,
     pub bytes: &'a [u8],
@@ -17,7 +18,7 @@ const THOUSANDS: NumberFormat = NumberFormatBuilder::new().digit_grouping(3, b',
 
 /// With these values most parts have their longest texts.
 pub const LONGEST: Values =
-    Values { bits: u64::MAX, few: 1, width: 4, fill: b'.', bytes: &[1, 126], groups: &THOUSANDS };
+    Values { bits: u64::MAX, small: 1, width: 4, fill: b'.', bytes: &[1, 126], groups: &THOUSANDS };
 
 /// Calls a macro with the name of the `Values`, and for each part with the part of these values, and then its longest
 /// room and the text that fills it, if the values are `LONGEST` with the fields that follow.
@@ -34,27 +35,27 @@ macro_rules! each_part {
             v.bits as i32 => 11, "-2147483648", bits = 1 << 31;
             v.bits as i64 => 20, "-9223372036854775808", bits = 1 << 63;
             "ÄÖ€𝄞" => 11, "ÄÖ€𝄞";
-            v.few % 2 == 1 => 5, "false", few = 0;
-            if v.few % 2 == 1 { 'a' } else { '𝄞' } => 4, "𝄞", few = 0;
+            v.small % 2 == 1 => 5, "false", small = 0;
+            if v.small % 2 == 1 { 'a' } else { '𝄞' } => 4, "𝄞", small = 0;
             Decimal(v.bits as u8) => 3, "255";
             Decimal(v.bits as i64) => 20, "-9223372036854775808", bits = 1 << 63;
             Plus(v.bits as u16) => 6, "+65535";
             Plus(v.bits as i16) => 6, "-32768", bits = 1 << 15;
-            Sign(v.bits as i8, v.few % 2 == 1) => 1, "+", bits = 5, few = 1;
-            Sign(v.bits as i64, v.few % 2 == 1) => 1, "-", bits = 1 << 63;
-            Digits(v.few as u32 % 40, v.bits as u8) => 8, "11111111", few = 2;
+            Sign(v.bits as i8, v.small % 2 == 1) => 1, "+", bits = 5, small = 1;
+            Sign(v.bits as i64, v.small % 2 == 1) => 1, "-", bits = 1 << 63;
+            Digits(v.small as u32 % 40, v.bits as u8) => 8, "11111111", small = 2;
             Digits(v.width as u32, v.bits) => 1, "0", width = 36, bits = 0;
             Hex(v.bits as u32) => 8, "FFFFFFFF";
             FullHex(v.bits as u16) => 4, "00FF", bits = 255;
             Binary(v.bits as u8) => 8, "11111111";
             Padded(v.bits as u8, v.width / 16) => 3, "007", bits = 7, width = 48;
             Padded(v.bits, v.width) => 20, "18446744073709551615", width = 20;
-            PaddedDigits(v.few as u32 % 40, v.bits as u16, v.width) => 4, "00FF", few = 16, bits = 255;
+            PaddedDigits(v.small as u32 % 40, v.bits as u16, v.width) => 4, "00FF", small = 16, bits = 255;
             Fixed(v.bits as i8, v.width) => 5, "-1.28", bits = 1 << 7, width = 2;
             Fixed(v.bits as i64, v.width) => 21, "-9223372036854.775808", bits = 1 << 63, width = 6;
             GroupedFixed(v.bits as i32, v.width / 2, v.groups) => 14, "-21,474,836.48", bits = 1 << 31;
             TrimmedFixed(v.bits as i8, v.width / 2) => 5, "-1.28", bits = 1 << 7;
-            Scientific(v.bits as i8, v.few as i32) => 17, "-1.28e-3", bits = 1 << 7, few = u64::MAX - 4;
+            Scientific(v.bits as i8, v.small as i32) => 17, "-1.28e-3", bits = 1 << 7, small = u64::MAX - 4;
             Formatted(v.bits as i32, v.groups) => 14, "-2,147,483,648", bits = 1 << 31;
             Bytes(v.bytes) => 2, "\u{1}~";
             Byte(v.fill) => 1, ".";

@@ -76,10 +76,10 @@ fn each_str_is_utf8() {
         NumberFormatBuilder::new().radix(7).required_mantissa_sign(true).digit_grouping(2, b'~').build_strict();
     let rounds = std::env::var("ROUNDS").map_or(12, |rounds| rounds.parse().unwrap());
     for _ in 0..rounds {
-        let (bits, few) = (random.number(), random.bits() >> 20);
-        let (width, fill) = ((few % 40) as usize, (random.bits() >> 40) as u8);
-        let bytes: Vec<u8> = (0..few % 5).map(|_| (random.bits() >> 30) as u8).collect();
-        let values = Values { bits, few, width, fill, bytes: &bytes, groups: &groups };
+        let (bits, small) = (random.number(), random.bits() >> 20);
+        let (width, fill) = ((small % 40) as usize, (random.bits() >> 40) as u8);
+        let bytes: Vec<u8> = (0..small % 5).map(|_| (random.bits() >> 30) as u8).collect();
+        let values = Values { bits, small, width, fill, bytes: &bytes, groups: &groups };
         macro_rules! check_each {
             ($v:ident; $($part:expr => $room:expr, $text:expr $(, $field:ident = $value:expr)*;)+) => {
                 let $v = values;
