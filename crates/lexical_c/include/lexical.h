@@ -276,7 +276,8 @@ struct lexical_format {
 LEXICAL_HAS((visibility("hidden")))
 inline constexpr lexical_format lexical_standard_format = LEXICAL_STANDARD_FORMAT;
 #elif defined(__GNUC__)
-/* A single object in each program: inline functions may use it, and no library exports it. */
+/* One object in each program and in each shared library, and none is exported. A C inline
+   function may use it. */
 extern __attribute__((weak, visibility("hidden"))) const struct lexical_format lexical_standard_format;
 const struct lexical_format lexical_standard_format = LEXICAL_STANDARD_FORMAT;
 #else

@@ -191,8 +191,9 @@ check_installation() {
   version=$(sed -n 's/^#define LEXICAL_VERSION_STRING "\(.*\)"$/\1/p' "$crate/include/lexical.h")
   major=${version%%.*} prefix=$work/prefix folder=$work/prefix/lib/here
   expect 'install before make' refuses 'run make first' BUILD="$work/nothing"
-  expect 'a prefix with a space' refuses 'without a space' prefix='/a b'
-  expect 'a prefix that sed would change' refuses 'without a space' prefix='/a&b'
+  for wrong in '/a b' '/a&b' '/a|b' '/a,b' "/a'b" '/a"b' a/b; do
+    expect "the prefix $wrong" refuses 'without spaces' prefix="$wrong"
+  done
   expect 'a libdir that is not below prefix' refuses 'below prefix' prefix=/usr libdir=/lib
   expect 'make install' installs
   expect 'the library is replaced, not overwritten' replaces_library
