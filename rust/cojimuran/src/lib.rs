@@ -88,8 +88,8 @@
 //!
 //! # Options in a format string
 //!
-//! Most parts have `Display`. A tuple, an `Option`, a [`Byte`], a [`Bytes`], a [`Sign`] and a part of your own have
-//! none: print them by [`Shown`]. Parts that are one number, except [`Scientific`], take the width, the fill, the `+`
+//! Most parts have `Display`. A tuple, an `Option`, a [`Byte`], a [`Bytes`] and a [`Sign`] have none, and a part of your
+//! own has one only if you write it: print them by [`Shown`]. Parts that are one number, except [`Scientific`], take the width, the fill, the `+`
 //! and the `0` of an integer; `#` and a precision have no effect on them. A [`Displayed`] passes all options to its
 //! value. All other parts, among them [`Shown`] and [`Lower`] of a number, take the width, the fill and the precision
 //! of a `&str`:
@@ -107,7 +107,8 @@
 //!
 //! # A part of your own
 //!
-//! It delegates to another part:
+//! It delegates to a part of this crate. A part is `Copy`, so for a type that is not, write the two `impl` for
+//! `&YourType`:
 //!
 //! ```
 #![doc = include_str!("../examples/own_part.rs")]
@@ -118,7 +119,8 @@
 //! | rustc says | write |
 //! |---|---|
 //! | `i32` is not an unsigned integer type, or `to_str` exists for `Hex<i32>`, but its trait bounds were not satisfied | an unsigned number, such as `Hex(255u8)`, or for a negative number in a radix `Formatted(number, &FORMAT)` |
-//! | `(f64, u8)` is not a part, or `to_str` exists for `(u128, &str)`, but its trait bounds were not satisfied | `Displayed(&value)` for the member that is not a part, or nested tuples if there are more than 12 members |
+//! | `(f64, u8)` is not a part, or `to_str` exists for `(u128, &str)`, but its trait bounds were not satisfied | `Displayed(&value)` for the member that is not a part |
+//! | the same of a tuple of parts with more than 12 members | tuples in a tuple |
 //! | `(String, u8)` is not a part, or `to_str` exists for `(&str, &String)`, but its trait bounds were not satisfied | `string.as_str()`, or, with the feature `alloc`, `&string` |
 //! | `to_str` exists for `Joined<'_, String>`, but its trait bounds were not satisfied | a list of `&str`: `Joined(&strings.iter().map(String::as_str).collect::<Vec<_>>(), ",")` |
 //! | `(u8, Option<String>)` is not a part | `option.as_deref()` |
