@@ -1,23 +1,23 @@
-// Tests of `lexical_num`, `lexical_tables` and `lexical_write_integer` against known values: formats, tables, digit
-// counts and writers.
+//! Tests of `lexical_num`, `lexical_tables` and `lexical_write_integer` against known values: formats, tables, digit
+//! counts and writers.
 
 mod checks;
 mod counts;
 mod decimal_values;
+mod digits_in_each_radix;
 mod exact_buffers;
 mod formats;
 mod kernel_values;
-mod known_texts;
 mod numbers;
 mod pair_tables;
 mod rows;
-mod tables;
+mod single_calls;
 mod texts;
 mod writes;
 
 #[test]
 fn two_texts_in_longer_buffers(rt: HostRuntime) {
-    use checks::check_equal;
+    use crate::checks::check_equal;
     use lexical_write_integer::ToLexical;
     let mut three = [7, 7, 7];
     let text = 0u8.to_lexical(&mut three);

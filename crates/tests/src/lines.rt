@@ -1,10 +1,10 @@
-// Tests of `lexical_lines`: known values, hostile lines, and devices that fail.
+//! Tests of `lexical_lines`: known values, hostile lines, and devices that fail.
 
 mod answers;
 mod blocks;
 mod checks;
 mod devices;
-mod failing;
+mod failing_devices;
 mod failures;
 mod hostile_lines;
 mod joined;

@@ -2,6 +2,7 @@
 
 ghost use Rattle.std.specs.Prelude.{◌≡◌};
 
+use crate::checks::check_equal;
 use lexical_num::{NumberFormat, NumberFormatBuilder};
 use std::fmt::Debug;
 use std::process::Abort;
@@ -12,18 +13,6 @@ pub(crate) const ROOM: usize = 140;
 
 // What the buffers of the tests contain before a call.
 const UNCHANGED: [u8; ROOM] = [7; ROOM];
-
-// Checks that a value is the expected one.
-pub(crate) fn check_equal<R: Debug + Drop, T: PartialEq + Debug + Drop>(
-    rt: &impl Abort,
-    row: R,
-    value: T,
-    expected: T,
-) {
-    if value != expected {
-        panic!(rt; "in the row {row:?}: {value:?} in place of {expected:?}");
-    }
-}
 
 // Checks that the buffer begins with the text, and that every byte after it is still 7.
 pub(crate) fn check_buffer<R: Copy + Debug + Drop>(
@@ -64,12 +53,6 @@ pub(crate) fn check_text(rt: &impl Abort, length: usize, buffer: &[u8], text: &[
 }
 
 // Uses that must fail, since a check that compares nothing would let every test pass.
-
-#[test]
-#[should_panic(expected = "in the row \"first\": 2 in place of 3")]
-fn a_wrong_value_fails(rt: HostRuntime) {
-    check_equal(&rt, "first", 2, 3);
-}
 
 #[test]
 #[should_panic(expected = "in the row \"first\": 2 in place of 3")]

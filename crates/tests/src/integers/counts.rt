@@ -1,6 +1,6 @@
 //! Tests of the logarithms, and of the digit counts with a table of powers.
 
-use crate::integers::checks::check_equal;
+use crate::checks::check_equal;
 use lexical_write_integer::decimal::{fallback_digit_count, fast_log10};
 use lexical_write_integer::digit_count::fast_log2;
 

@@ -1,4 +1,4 @@
-// Tests of the decimal writer of each type with a buffer of the decimal width, which is the required length.
+//! Tests of the decimal writer of each type with a buffer of the decimal width, which is the required length.
 
 use crate::integers::checks::check_text;
 use lexical_num::LexicalInteger;

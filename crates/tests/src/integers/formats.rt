@@ -1,4 +1,4 @@
-// Tests of the formats and their builder.
+//! Tests of the formats and their builder.
 
 mod errors;
 mod every_byte;
@@ -7,7 +7,8 @@ mod types;
 
 ghost use Rattle.std.specs.Prelude.{◌≡◌};
 
-use crate::integers::checks::{check_equal, valid};
+use crate::checks::check_equal;
+use crate::integers::checks::valid;
 use errors::check_error;
 use lexical_num::format::STANDARD;
 use lexical_num::{NumberFormat, NumberFormatBuilder};

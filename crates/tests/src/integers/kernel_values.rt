@@ -1,7 +1,7 @@
-// Tests of the decimal kernels with known numbers: the fraction that each returns, and the pairs of digits
-// that `next2` takes from it.
+//! Tests of the decimal kernels with known numbers: the fraction that each returns, and the pairs of digits
+//! that `next2` takes from it.
 
-use crate::integers::checks::check_equal;
+use crate::checks::check_equal;
 use lexical_write_integer::jeaiii::{
     fixed_2, fixed_4, fixed_6, fixed_8_nine, fixed_8_ten, fixed_8_wide, next2,
 };

@@ -1,8 +1,8 @@
-// Tests of the tables of pairs of digits.
+//! Tests of the tables of pairs of digits.
 
 ghost use Rattle.lexical_num.specs.Format.{IsRadix};
 
-use crate::integers::checks::check_equal;
+use crate::checks::check_equal;
 use lexical_tables::{
     DIGIT_TO_BASE2_SQUARED, DIGIT_TO_BASE3_SQUARED, DIGIT_TO_BASE4_SQUARED, DIGIT_TO_BASE5_SQUARED,
     DIGIT_TO_BASE6_SQUARED, DIGIT_TO_BASE7_SQUARED, DIGIT_TO_BASE8_SQUARED, DIGIT_TO_BASE9_SQUARED,

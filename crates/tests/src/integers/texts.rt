@@ -1,4 +1,4 @@
-// Tests of the texts of numbers of all types, in several formats.
+//! Tests of the texts of numbers of all types, in several formats.
 
 mod groups;
 mod radices;
@@ -8,7 +8,8 @@ ghost use Rattle.std.specs.Prelude.{◌≡◌, ◌≤◌};
 ghost use Rattle.lexical_num.specs.Format.{standard};
 ghost use Rattle.lexical_write_integer.specs.Text.{need};
 
-use crate::integers::checks::{ROOM, check_buffer, check_equal, valid};
+use crate::checks::check_equal;
+use crate::integers::checks::{ROOM, check_buffer, valid};
 use crate::integers::numbers::NUMBERS;
 use crate::integers::rows::read;
 use lexical_num::WriteOptions;

@@ -1,4 +1,5 @@
-// Tests of the methods of `WriteInteger`, other than `write_integer`. Most have a buffer of exactly the required length.
+//! Tests of the methods of `WriteInteger`, other than `write_integer`. Most have a buffer of exactly the required
+//! length.
 
 use crate::integers::checks::{check_text, valid};
 use lexical_write_integer::NumberFormatBuilder;

@@ -1,4 +1,4 @@
-// The answers to known lines.
+//! The answers to known lines.
 
 use crate::lines::checks::check_slice;
 use std::io::ErrorKind;

@@ -1,9 +1,12 @@
+//! Tests of a `BlockWriter`, and in the modules below, of what reads and writes blocks.
+
 mod answers;
 mod std_devices;
 
 ghost use Rattle.std.specs.Prelude.{◌≤◌, length, IfOk};
 
-use crate::lines::checks::{check_equal, kind_of};
+use crate::checks::check_equal;
+use crate::lines::checks::kind_of;
 use crate::lines::devices::TestWriter;
 use lexical_lines::{BlockWriter, ByteSink, Writing};
 use std::cell::Cell;

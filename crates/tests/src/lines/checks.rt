@@ -2,6 +2,7 @@
 
 ghost use Rattle.std.specs.Prelude.{◌≡◌, ◌≤◌, IfOk, Ok};
 
+use crate::checks::check_equal;
 use crate::lines::devices::TestWriter;
 use lexical_lines::{
     ByteSink, ByteSource, SliceSink, SliceSource, Writing, answer_slice, run, status,
@@ -10,25 +11,6 @@ use std::fmt::Debug;
 use std::io;
 use std::io::ErrorKind;
 use std::process::Abort;
-
-/// Checks that a value is the expected one.
-pub fn check_equal<R: Debug + Drop, T: PartialEq + Debug + Drop>(
-    rt: &impl Abort,
-    row: R,
-    value: T,
-    expected: T,
-) {
-    if value != expected {
-        panic!(rt; "in the row {row:?}: {value:?} in place of {expected:?}");
-    }
-}
-
-// A check that compares nothing would let every test pass.
-#[test]
-#[should_panic(expected = "in the row \"first\": 2 in place of 3")]
-fn a_wrong_value_fails(rt: HostRuntime) {
-    check_equal(&rt, "first", 2, 3);
-}
 
 /// What the buffers of the tests contain before a call.
 pub const UNCHANGED: [u8; 256] = [b'.'; 256];

@@ -1,4 +1,4 @@
-// A reader and a writer that yield and take little in each call, and fail.
+//! A reader and a writer that yield and take little in each call, and fail.
 
 use std::cell::Cell;
 use std::io;

@@ -1,11 +1,10 @@
-// Runs over devices that fail after each number of bytes: a run ends at the first failure, and no byte
-// is lost or written twice.
+//! Runs over devices that fail after each number of bytes: a run ends at the first failure, and no byte
+//! is lost or written twice.
 
-use crate::lines::checks::{
-    Outcome, UNCHANGED, check_buffer, check_equal, check_outcome, check_run,
-};
+use crate::checks::check_equal;
+use crate::lines::checks::{Outcome, UNCHANGED, check_buffer, check_outcome, check_run};
 use crate::lines::devices::{NEVER, TestReader, TestWriter};
-use crate::lines::failing::{FailingSink, FailingSource};
+use crate::lines::failing_devices::{FailingSink, FailingSource};
 use lexical_lines::{Reading, SliceSource, Writing, run};
 use std::cell::Cell;
 use std::io::ErrorKind;

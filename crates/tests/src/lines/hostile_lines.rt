@@ -1,4 +1,4 @@
-// Hostile lines: single bytes, a valid line with one byte changed, and one with an additional byte.
+//! Hostile lines: single bytes, a valid line with one byte changed, and one with an additional byte.
 
 use crate::lines::checks::check_slice;
 use std::process::Abort;

@@ -1,9 +1,10 @@
-// Several numbers with a separator between them.
+//! Several numbers with a separator between them.
 
 ghost use Rattle.std.specs.Prelude.{◌+◌, ◌*◌, ◌≤◌, length};
 ghost use Rattle.lexical_num.specs.Size.{size_in};
 
-use crate::lines::checks::{UNCHANGED, check_buffer, check_equal};
+use crate::checks::check_equal;
+use crate::lines::checks::{UNCHANGED, check_buffer};
 use lexical_lines::{join, write_joined};
 use lexical_num::format::STANDARD;
 use lexical_num::{NumberFormat, NumberFormatBuilder};

@@ -1,10 +1,10 @@
-// Every input has answers, since a run computes them.
+//! Every input has answers, since a run computes them.
 
 ghost use Rattle.std.specs.Prelude.{◌≡◌, ◌++◌, ℕ, List, refl};
 ghost use Rattle.std.proofs.Common.{◌∙◌};
 ghost use Rattle.lexical_lines.specs.Answer.{AnswersAll};
 
-use crate::lines::checks::check_equal;
+use crate::checks::check_equal;
 use lexical_lines::{ByteSink, SliceSource, Trace, run};
 use std::io;
 

@@ -5,7 +5,8 @@ ghost use Rattle.lexical_num.specs.Format.{IsRadix};
 ghost use Rattle.lexical_write_integer.specs.DigitCount.{digit_count};
 ghost use Rattle.lexical_write_integer.specs.Text.{digits_need};
 
-use crate::integers::checks::{ROOM, check_equal, check_written};
+use crate::checks::check_equal;
+use crate::integers::checks::{ROOM, check_written};
 use lexical_num::{BUFFER_SIZE, LexicalInteger, UnsignedInteger};
 use lexical_write_integer::compact::Compact;
 use lexical_write_integer::decimal::{Decimal, DecimalCount};

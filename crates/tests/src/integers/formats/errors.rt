@@ -1,6 +1,6 @@
-// Tests of the errors of a build.
+//! Tests of the errors of a build.
 
-use crate::integers::checks::check_equal;
+use crate::checks::check_equal;
 use crate::integers::rows::read;
 use lexical_num::{Error, NumberFormat, NumberFormatBuilder};
 use std::fmt::InlineText;

@@ -1,6 +1,6 @@
-// Tests every pair of bytes as the two radices, and as the group size and the separator.
+//! Tests every pair of bytes as the two radices, and as the group size and the separator.
 
-use crate::integers::checks::check_equal;
+use crate::checks::check_equal;
 use lexical_num::{Error, NumberFormatBuilder};
 use std::process::Abort;
 

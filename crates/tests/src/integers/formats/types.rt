@@ -1,8 +1,8 @@
-// Tests of the integer types, which each test uses only through the bound of a type parameter.
+//! Tests of the integer types, which each test uses only through the bound of a type parameter.
 
 ghost use Rattle.std.specs.Prelude.{◌^◌, ◌<◌};
 
-use crate::integers::checks::check_equal;
+use crate::checks::check_equal;
 use lexical_num::digit::digit_to_char;
 use lexical_num::{BUFFER_SIZE, FormattedSize, LexicalInteger, UnsignedInteger};
 use std::process::Abort;

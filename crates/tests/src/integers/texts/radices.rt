@@ -1,5 +1,5 @@
-// Tests of texts in several radices, without groups and required signs.
-// In the lines, the columns are the radix, the number, its required length, the size of its type and its text.
+//! Tests of texts in several radices, without groups and required signs.
+//! In the lines, the columns are the radix, the number, its required length, the size of its type and its text.
 
 use super::{check, check_lines};
 use lexical_write_integer::laws::equal_texts;

@@ -1,5 +1,5 @@
-// Tests of texts with a required sign.
-// In the lines, the columns are the radix, the number, its required length, the size of its type and its text.
+//! Tests of texts with a required sign.
+//! In the lines, the columns are the radix, the number, its required length, the size of its type and its text.
 
 use super::check_lines;
 use lexical_write_integer::{NumberFormatBuilder, Options};

@@ -1,6 +1,6 @@
-// Lines of a reader are answered to a writer, and one of the two may fail at one of its calls.
+//! Lines of a reader are answered to a writer, and one of the two may fail at one of its calls.
 
-use crate::lines::checks::check_equal;
+use crate::checks::check_equal;
 use crate::lines::devices::{NEVER, TestReader, TestWriter};
 use lexical_lines::{BlockWriter, Reading, Writing, answer_stream};
 use std::cell::Cell;

@@ -1,6 +1,8 @@
-// A `Reading` and a `Writing` call their reader and their writer once for each call, also after an error.
+//! A `Reading` and a `Writing`, as a source and a sink of blocks, call their reader and their writer once for each
+//! call, also after an error.
 
-use crate::lines::checks::{check_equal, check_put, check_taker, kind_of};
+use crate::checks::check_equal;
+use crate::lines::checks::{check_put, check_taker, kind_of};
 use crate::lines::devices::{TestReader, TestWriter};
 use lexical_lines::{BlockSink, BlockSource, Reading, Writing};
 use std::cell::Cell;

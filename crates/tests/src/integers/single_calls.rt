@@ -1,6 +1,7 @@
-// Tests of single calls with known numbers and buffers of known lengths.
+//! Tests of single calls with known numbers and buffers of known lengths.
 
-use crate::integers::checks::{check_equal, check_text};
+use crate::checks::check_equal;
+use crate::integers::checks::check_text;
 use lexical_write_integer::format::STANDARD;
 use lexical_write_integer::{BUFFER_SIZE, NumberFormatBuilder, ToLexical};
 

@@ -1,6 +1,7 @@
 //! Tests of the writers of digits and of the digit counts, in each radix.
 
-use crate::integers::checks::{check_equal, valid};
+use crate::checks::check_equal;
+use crate::integers::checks::valid;
 use crate::integers::exact_buffers::digits::check_types;
 use crate::integers::numbers::NUMBERS;
 use crate::integers::rows::read;

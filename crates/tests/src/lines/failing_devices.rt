@@ -1,4 +1,4 @@
-// A source and a sink that fail, with their own implementations of the traits of `lexical_lines`.
+//! A source and a sink that fail, with their own implementations of the traits of `lexical_lines`.
 
 ghost use Rattle.std.specs.Prelude.{◌≡◌, ℕ, ◌+◌, ◌-◌, ◌≤◌, ◌||◌, ◌++◌, IfOk, length, take, ⊤};
 ghost use Rattle.lexical_lines.specs.Sink.{taken_by, put_failures};
