@@ -17,7 +17,7 @@ fn write<T: CInteger>(value: T, format: &CFormat, buffer: &mut [u8]) -> usize
     ensures { WritesOrRefuses (T.number value) format.now buffer.old buffer.new result }
 {
     if has_only_radix_and_case(format) & (format.lowercase == 0) {
-        write_digits(value, format, buffer)
+        write_caseless(value, format, buffer)
     } else {
         write_other(value, format, buffer)
     }
@@ -33,7 +33,7 @@ fn write_other<T: CInteger>(value: T, format: &CFormat, buffer: &mut [u8]) -> us
     if !has_only_radix_and_case(format) {
         write_general(value.widen(), format, buffer)
     } else if format.radix <= 10 {
-        write_digits(value, format, buffer)
+        write_caseless(value, format, buffer)
     } else if format.radix == 16 {
         write_hexadecimal(value.widen(), buffer)
     } else {
@@ -43,7 +43,7 @@ fn write_other<T: CInteger>(value: T, format: &CFormat, buffer: &mut [u8]) -> us
 
 // Does what `write` does in a format that has only a radix, or at most 10 as the radix and a case: then the
 // text is the same in lowercase. Radix 10 is apart, so a signed number in decimal takes no jump by its radix.
-fn write_digits<T: CInteger>(value: T, format: &CFormat, buffer: &mut [u8]) -> usize
+fn write_caseless<T: CInteger>(value: T, format: &CFormat, buffer: &mut [u8]) -> usize
     requires only { HasOnlyRadixAndCase format.now }
     requires case { format.now.lowercase ≢ 0 → format.now.radix ≤ 10 }
     ensures { WritesOrRefuses (T.number value) format.now buffer.old buffer.new result }
@@ -51,12 +51,12 @@ fn write_digits<T: CInteger>(value: T, format: &CFormat, buffer: &mut [u8]) -> u
     if format.radix == 10 {
         write_decimal(value, value.widen(), buffer)
     } else {
-        write_in_radix(value, format, buffer)
+        write_caseless_in_radix(value, format, buffer)
     }
 }
 
-// Does what `write_digits` does, under the same conditions.
-fn write_in_radix<T: CInteger>(value: T, format: &CFormat, buffer: &mut [u8]) -> usize
+// Does what `write_caseless` does, under the same conditions.
+fn write_caseless_in_radix<T: CInteger>(value: T, format: &CFormat, buffer: &mut [u8]) -> usize
     requires only { HasOnlyRadixAndCase format.now }
     requires case { format.now.lowercase ≢ 0 → format.now.radix ≤ 10 }
     ensures { WritesOrRefuses (T.number value) format.now buffer.old buffer.new result }

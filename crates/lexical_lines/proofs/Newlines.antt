@@ -206,7 +206,8 @@ in_word n fits =
 pub none_found : (n : ℕ) → n < 2 ^ 64 → found 8 (bit_xor n (each 10 8)) ≡ 0 → NoNewline (to_le_bytes w64 n)
 none_found n fits zeros = grind (arith, in_word n fits, pow_pos)
 
--- if a word has a newline, the position of the lowest bit that is found, divided by 8, is the index of the first newline
+-- if a word has a newline, the position of the lowest bit that is found, divided by 8, is the index of the first
+-- newline
 pub first_found : (n : ℕ) → n < 2 ^ 64 → found 8 (bit_xor n (each 10 8)) ≢ 0
     → IsFirstNewline (to_le_bytes w64 n) (trailing_zeros w64 (found 8 (bit_xor n (each 10 8))) / 8)
 first_found n fits some = elim (in_word n fits) [

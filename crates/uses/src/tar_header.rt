@@ -11,8 +11,8 @@ ghost use Rattle.lexical_parts.specs.Sequence.{◌then◌, IsStr};
 use lexical_parts::{Left, Padded, PaddedDigits, Part, write_field};
 use lexical_write_integer::laws::padded_length;
 
-/// Writes six fields of a header to their places: the name of a file, and in radix 8 its mode, its owner, its group, its
-/// size and the sum of the header. The other bytes do not change.
+/// Writes six fields of a header to their places: the name of a file, and in radix 8 its mode, its owner, its group,
+/// its size and the sum of the header. The other bytes do not change.
 pub fn write_header(
     name: &str,
     mode: u32,

@@ -1,4 +1,4 @@
-// Tests of the callers with known numbers.
+//! Tests of the callers with known numbers.
 
 ghost use Rattle.std.specs.Prelude.{◌≤◌, length};
 

@@ -14,7 +14,7 @@ use crate::plain::{fitting_format, has_only_radix_and_case, set_lowercase_bit, w
 #[inline]
 fn write<T: CInteger>(value: T, format: &CFormat, buffer: &mut [u8]) -> usize {
     if has_only_radix_and_case(format) & (format.lowercase == 0) {
-        write_digits(value, format, buffer)
+        write_caseless(value, format, buffer)
     } else {
         write_other(value, format, buffer)
     }
@@ -28,7 +28,7 @@ fn write_other<T: CInteger>(value: T, format: &CFormat, buffer: &mut [u8]) -> us
     if !has_only_radix_and_case(format) {
         write_general(value.widen(), format, buffer)
     } else if format.radix <= 10 {
-        write_digits(value, format, buffer)
+        write_caseless(value, format, buffer)
     } else if format.radix == 16 {
         write_hexadecimal(value.widen(), buffer)
     } else {
@@ -39,17 +39,17 @@ fn write_other<T: CInteger>(value: T, format: &CFormat, buffer: &mut [u8]) -> us
 // Does what `write` does in a format that has only a radix, or at most 10 as the radix and a case: then the
 // text is the same in lowercase. Radix 10 is apart, so a signed number in decimal takes no jump by its radix.
 #[inline(never)]
-fn write_digits<T: CInteger>(value: T, format: &CFormat, buffer: &mut [u8]) -> usize {
+fn write_caseless<T: CInteger>(value: T, format: &CFormat, buffer: &mut [u8]) -> usize {
     if format.radix == 10 {
         write_decimal(value, value.widen(), buffer)
     } else {
-        write_in_radix(value, format, buffer)
+        write_caseless_in_radix(value, format, buffer)
     }
 }
 
-// Does what `write_digits` does, under the same conditions.
+// Does what `write_caseless` does, under the same conditions.
 #[inline(never)]
-fn write_in_radix<T: CInteger>(value: T, format: &CFormat, buffer: &mut [u8]) -> usize {
+fn write_caseless_in_radix<T: CInteger>(value: T, format: &CFormat, buffer: &mut [u8]) -> usize {
     match fitting_format::<T>(format.radix, buffer.len()) {
         Some(plain) => write_plain(value, &plain, buffer),
         None => write_general(value.widen(), format, buffer),

@@ -207,7 +207,7 @@ pub(crate) const SOURCES: &[Source] = &[
         attributes: &[
             // If rustc inlined the first, it would be in the code of each type twice, and with the second a call in
             // decimal would save registers that only this needs.
-            ("#[inline(never)]", "write_digits write_in_radix"),
+            ("#[inline(never)]", "write_caseless write_caseless_in_radix"),
             // If the length of the buffer is known to suffice, the writers have fewer checks.
             ("#[inline(always)]", "plain.rt"),
         ],

@@ -1,4 +1,4 @@
-// The exit status of the program.
+//! The exit status of the program.
 
 ghost use Rattle.std.specs.Prelude.{◌≡◌};
 ghost use Rattle.lexical_lines.specs.ExitStatus.{status_of};

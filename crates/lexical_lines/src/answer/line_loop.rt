@@ -1,4 +1,4 @@
-// The loop that reads bytes and answers lines.
+//! The loop that reads bytes and answers lines.
 
 ghost use Rattle.std.specs.Prelude.{◌≡◌, ◌⊎◌, ℕ, ◌++◌, IfOk, OnErr};
 ghost use Rattle.lexical_lines.specs.RunOutcome.{added, RunAnswered, SourceFailed, SinkFailed};

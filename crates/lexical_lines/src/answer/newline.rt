@@ -1,4 +1,4 @@
-// Finding the newline that ends a line.
+//! Finding the newline that ends a line.
 
 ghost use Rattle.std.specs.Prelude.{◌≤◌, IfSome, IfNone, length, take};
 ghost use Rattle.std.specs.Int.{to_le_bytes, w64};

@@ -1,4 +1,4 @@
-// A writer that collects bytes in a block.
+//! A writer that collects bytes in a block.
 
 ghost use Rattle.std.specs.Prelude.{◌≡◌, ◌+◌, ◌-◌, ◌<◌, ◌≤◌, min, [], ◌++◌, length, take, Ok, IfOk, OnOk};
 ghost use Rattle.lexical_lines.specs.Sink.{taken_by, put_failures};

@@ -14,7 +14,7 @@ use std::io::{Read, Write};
 use std::marker::Model;
 
 // An offset in a file is a signed number of 64 bits, so every file is shorter than this.
-const LONGEST: u64 = 9_223_372_036_854_775_807;
+const MOST_BYTES_READ: u64 = 9_223_372_036_854_775_807;
 
 /// A source that yields the bytes of a reader, up to a limit.
 #[derive(Drop)]
@@ -59,7 +59,7 @@ impl<R: Read> Reading<R> {
     pub fn whole(reader: R) -> Reading<R>
         ensures { result ≡ new_reading reader (2 ^ 63 - 1) }
     {
-        Reading::new(reader, LONGEST)
+        Reading::new(reader, MOST_BYTES_READ)
     }
 }
 

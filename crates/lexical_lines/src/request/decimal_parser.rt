@@ -1,4 +1,4 @@
-// Parses decimal numbers.
+//! Parses decimal numbers.
 
 ghost use Rattle.std.specs.Prelude.{◌≡◌, ◌≢◌, ℕ, ◌^◌, ◌<◌, ◌≤◌, List, ◌∷◌, ◌++◌, IfSome, IfNone, length};
 ghost use Rattle.lexical_num.specs.Format.{IsRadix};

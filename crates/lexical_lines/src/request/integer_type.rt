@@ -1,4 +1,4 @@
-// The ten integer types: their names and their ranges.
+//! The ten integer types: their names and their ranges.
 
 ghost use Rattle.std.specs.Prelude.{◌≡◌, ◌≢◌, ◌↔◌, ℕ, List, ◌∷◌, ◌++◌, IsTrue, IfSome, IfNone};
 ghost use Rattle.lexical_lines.specs.IntegerType.{name_of, width_name, largest, largest_unsigned, Holds};

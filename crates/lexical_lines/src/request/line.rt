@@ -1,4 +1,4 @@
-// A buffer for the line that is being read.
+//! A buffer for the line that is being read.
 
 ghost use Rattle.std.specs.Prelude.{◌≡◌, ℕ, ◌≤◌, List, [], ◌++◌, ◌↔◌, take, Option, Some, None, IsTrue};
 ghost use Rattle.std.specs.Prelude.{if◌then◌else◌, nat_le, IfSome, length};

@@ -1,4 +1,4 @@
-// Removes an optional sign.
+//! Removes an optional sign.
 
 ghost use Rattle.std.specs.Prelude.{◌≡◌, [], ◌∷◌, ◌++◌, true};
 ghost use Rattle.std.specs.Io.{StartsWith};

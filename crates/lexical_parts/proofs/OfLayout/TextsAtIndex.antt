@@ -10,10 +10,10 @@ use Rattle.lexical_parts.specs.Fields.{bytes_between}
 use borrow.Rule.Slice.PartMut.{mid_of, put_mid}
 
 -- what is written to the k bytes at index a is a text after the first a bytes
-pub at_is : {Is : List ℕ → Type 0} (a k : ℕ) (xs ys : List ℕ) (count : ℕ) → a ≤ length xs
+pub Writes-at : {Is : List ℕ → Type 0} (a k : ℕ) (xs ys : List ℕ) (count : ℕ) → a ≤ length xs
     → Writes Is (mid_of a k xs) ys count
     → Writes (Then (IsExactly (take a xs)) Is) xs (put_mid a k xs ys) (a + count)
-at_is {Is} a k xs ys count inside w =
+Writes-at {Is} a k xs ys count inside w =
     let long : length (take a xs) ≡ a = length-take-le a xs inside in
     let front : Front xs xs (take a xs) = record {
       fits = omega (arith, long);

@@ -184,8 +184,8 @@ zero_padded_length width count whole texts most = record {
 }
 
 -- if n is one more than m, then n times k is k more than m times k
-more : (n m k : ℕ) → n ≡ m + 1 → n * k ≡ k + m * k
-more n m k is = rw is (grind arith)
+mul-one_more : (n m k : ℕ) → n ≡ m + 1 → n * k ≡ k + m * k
+mul-one_more n m k is = rw is (grind arith)
 
 -- the texts of the elements, without the separators between them
 pub joined_each : {A : Type 0} (IsOf : A → List ℕ → Type 0) (separator : List ℕ) (xs : List A) (text : List ℕ)
@@ -217,7 +217,7 @@ joined_each IsOf separator (x ∷ y ∷ xs) text is =
         tail,
         between,
         rest.2,
-        more (length (x ∷ y ∷ xs) - 1) (length (y ∷ xs) - 1) (length separator) (omega arith),
+        mul-one_more (length (x ∷ y ∷ xs) - 1) (length (y ∷ xs) - 1) (length separator) (omega arith),
       ),
     )
 

@@ -1,5 +1,5 @@
-// A number in a column of a format string, such as `{:>20}`: its text with the fill before it, in one piece. The
-// standard library writes each character of the fill by itself.
+//! A number in a column of a format string, such as `{:>20}`: its text with the fill before it, in one piece. The
+//! standard library writes each character of the fill by itself.
 
 ghost use Rattle.std.specs.Prelude.{false, [], IsTrue};
 ghost use Rattle.std.specs.Fmt.{WritesStyledOnOk, formatter_spec, padded_integral};

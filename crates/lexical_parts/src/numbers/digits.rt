@@ -22,7 +22,8 @@ use lexical_write_integer::radix::Radix;
 /// `Digits(36, 1000u64)`. A signed number in a radix is written by `Formatted`. The room is the number of digits.
 ///
 /// If you name the radix as a constant, your program has only the code of that radix. With `{}`, `append_to` and [a few
-/// other calls](crate::costs#the-code-of-all-radices) rustc may include the code of every radix, which is 60 KB or more.
+/// other calls](crate::costs#the-code-of-all-radices) rustc may include the code of every radix, which is 60 KB or
+/// more.
 ///
 /// ```
 /// use lexical_parts::{Digits, Lower, Part};

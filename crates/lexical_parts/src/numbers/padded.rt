@@ -39,7 +39,8 @@ fn has_few_bits(number: u64, radix: u32, width: usize) -> bool
 /// room is the width. `room` and `text_len` do not check that the number fits.
 ///
 /// If you name the radix as a constant, your program has only the code of that radix. With `{}`, `append_to` and [a few
-/// other calls](crate::costs#the-code-of-all-radices) rustc may include the code of every radix, which is 60 KB or more.
+/// other calls](crate::costs#the-code-of-all-radices) rustc may include the code of every radix, which is 60 KB or
+/// more.
 ///
 /// ```
 /// use lexical_parts::{PaddedDigits, Part};
@@ -104,10 +105,9 @@ impl<T: DigitCount + Radix> Show for PaddedDigits<T> {
     }
 }
 
-/// An unsigned number in decimal, with leading zeros up to the width: `Padded(3u8, 2)` writes `03`.
-/// The number must be below `10.pow(width)`, and a literal needs a type. Its room is the width. `room` and `text_len` do
-/// not check that the number fits.
-/// [`ZeroPadded`](super::super::ZeroPadded) writes every number: `ZeroPadded(123u8, 2)` writes `123`.
+/// An unsigned number in decimal, with leading zeros up to the width: `Padded(3u8, 2)` writes `03`. The number must be
+/// below `10.pow(width)`, and a literal needs a type. Its room is the width. `room` and `text_len` do not check that
+/// the number fits. [`ZeroPadded`](super::super::ZeroPadded) writes every number: `ZeroPadded(123u8, 2)` writes `123`.
 ///
 /// ```
 /// use lexical_parts::{Padded, Part, ZeroPadded};

@@ -20,7 +20,7 @@ use lexical_write_integer::format::STANDARD;
 use lexical_write_integer::laws::size_suffices;
 
 // The room of a number in scientific notation of the longest type.
-const LONGEST: usize = 33;
+const LONGEST_SCIENTIFIC: usize = 33;
 
 // Returns how many digits are left without the zeros at the end. At least the first `least` digits are left.
 pub(crate) fn count_without_zeros(digits: &[u8], least: usize) -> usize
@@ -129,7 +129,7 @@ impl<T: ToLexical> Part for Scientific<T> {
     {
         self.0.in_range();
         // How many zeros the number ends with, only its digits say.
-        Some(self.write_to(&mut [0; LONGEST]))
+        Some(self.write_to(&mut [0; LONGEST_SCIENTIFIC]))
     }
 
     fn is_known_valid_and_utf8(self, _sealed: Sealed) -> bool {

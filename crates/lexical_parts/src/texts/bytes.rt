@@ -73,8 +73,8 @@ impl Show for Bytes<'_> {
     }
 }
 
-/// A part whose text is one byte: `Byte(b'a')` writes `a`. Its room is 1. In a `&str`, a `String` or a format string the
-/// byte must be below 128.
+/// A part whose text is one byte: `Byte(b'a')` writes `a`. Its room is 1. In a `&str`, a `String` or a format string
+/// the byte must be below 128.
 ///
 /// ```
 /// use lexical_parts::{Byte, Part};

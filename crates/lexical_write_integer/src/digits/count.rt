@@ -46,7 +46,12 @@ fn quotient<T: UnsignedInteger>(number: T, power: T, turns: &mut Turns) -> T
 
 // Removes the last `step` digits of the number per iteration, while it has more than `step` digits.
 // Returns the remaining quotient and the number of digits that were removed.
-fn remove_digits_by<T: UnsignedInteger>(value: T, radix: u32, step: u32, turns: &mut Turns) -> (T, usize)
+fn remove_digits_by<T: UnsignedInteger>(
+    value: T,
+    radix: u32,
+    step: u32,
+    turns: &mut Turns,
+) -> (T, usize)
     requires radix { IsRadix radix }
     requires step { IsStep step }
     // The notes are the quotients.

@@ -1,4 +1,4 @@
-// Tables of the pairs of digits of a radix: `00`, `01` and so on.
+//! Tables of the pairs of digits of a radix: `00`, `01` and so on.
 
 ghost use Rattle.std.specs.Prelude.{◌+◌, ◌*◌, ◌<◌, ◌≤◌, length};
 ghost use Rattle.lexical_num.specs.Format.{IsRadix};

@@ -24,7 +24,8 @@ use binary_words::write_binary;
 use by_radix::by_radix;
 use count_then_write::{count_then_write, write_one_or_two_digits};
 use count_while_writing::{
-    count_and_write_five_to_eight, count_and_write_above_eight, count_and_write_up_to_four, eighth_power,
+    count_and_write_above_eight, count_and_write_five_to_eight, count_and_write_up_to_four,
+    eighth_power,
 };
 use lexical_num::num::UnsignedInteger;
 use lexical_tables::get_table;
@@ -161,8 +162,8 @@ pub(crate) fn write_in_radix<T: UnsignedInteger>(
     by_radix!(radix, write_by_table or write_short_inline::<T>(value, buffer, turns))
 }
 
-// Writes the digits as `write_in_radix` does, but by a call. Only one or two digits in a radix that is no power of 2 are
-// written in the caller. So a caller whose radix is constant has little code.
+// Writes the digits as `write_in_radix` does, but by a call. Only one or two digits in a radix that is no power of 2
+// are written in the caller. So a caller whose radix is constant has little code.
 fn write_in_radix_out_of_line<T: UnsignedInteger>(
     value: T,
     radix: u32,

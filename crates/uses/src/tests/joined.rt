@@ -1,4 +1,4 @@
-// Tests of parts that are joined, and of callers that join parts.
+//! Tests of parts that are joined, and of callers that join parts.
 
 use super::{check, check_buffer, check_part, check_room, check_str};
 use crate::csv_row::{Row, try_write_rows};

@@ -1,4 +1,4 @@
-// Tests of the callers of `lexical_parts`.
+//! Tests of the callers of `lexical_parts`.
 
 use super::{check, check_buffer, check_bytes, check_part, check_room, check_str};
 use crate::csv_row::{Summary, try_write_list, write_entries, write_row, write_summary};

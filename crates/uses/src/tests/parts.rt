@@ -1,4 +1,4 @@
-// Tests of single parts, and of callers that show one part each.
+//! Tests of single parts, and of callers that show one part each.
 
 use super::{check, check_buffer, check_part, check_room, check_str};
 use crate::amount::write_amount;

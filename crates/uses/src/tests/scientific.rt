@@ -1,4 +1,4 @@
-// Numbers in scientific notation, compared with what Rust writes.
+//! Numbers in scientific notation, compared with what Rust writes.
 
 ghost use Rattle.std.specs.Prelude.{◌<◌, ◌≤◌};
 

@@ -1,4 +1,4 @@
-// Parts in format strings, and texts in a `Vec` and a `String`.
+//! Parts in format strings, and texts in a `Vec` and a `String`.
 
 use super::check;
 use crate::csv_row::{Row, push_entries};

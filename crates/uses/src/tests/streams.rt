@@ -1,4 +1,4 @@
-// The answers to the lines of a slice, in a vector.
+//! The answers to the lines of a slice, in a vector.
 
 ghost use Rattle.std.specs.Prelude.{◌-◌, ◌^◌, ◌≤◌, take};
 ghost use Rattle.lexical_lines.specs.Answer.{AnswersAll};

@@ -1,4 +1,4 @@
-// The longest texts of parts in columns of each width, also of those in which they just fit, or do not.
+//! The longest texts of parts in columns of each width, also of those in which they just fit, or do not.
 
 use super::check;
 use lexical_parts::{Binary, Decimal, Formatted, Hex, Plus};

@@ -103,8 +103,8 @@ pub trait Part: Copy {
 
     /// Writes the text to the start of the buffer if it fits, and returns its length; every byte after the text is
     /// unchanged. If it does not fit, returns `None`, and the buffer is unchanged. If the room is above 256 bytes,
-    /// returns `None` for each buffer that is shorter than the room, even if the text fits. Only lengths are tested: the
-    /// part must be valid.
+    /// returns `None` for each buffer that is shorter than the room, even if the text fits. Only lengths are tested:
+    /// the part must be valid.
     ///
     /// # Panics
     ///

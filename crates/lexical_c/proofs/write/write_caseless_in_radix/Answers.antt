@@ -2,7 +2,7 @@ use Rattle.std.proofs.Common.{sym, ◌∙◌}
 use Rattle.lexical_num.proofs.Magnitudes.{magnitude-small}
 use Rattle.lexical_c.proofs.PlainTexts.{only_radix, accepted}
 use Rattle.lexical_c.proofs.WrittenTexts.{written, in_either_case}
-use Rattle.lexical_c.proofs.write.write_in_radix.Goals as goal
+use Rattle.lexical_c.proofs.write.write_caseless_in_radix.Goals as goal
 
 pub returns-in-Some : goal.returns-in-Some
 returns-in-Some g c =

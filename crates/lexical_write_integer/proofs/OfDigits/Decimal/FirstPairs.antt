@@ -11,10 +11,11 @@ use Rattle.lexical_write_integer.proofs.OfDigits.Numerals.{IsBlockOf-one, IsBloc
 use mir.Val.{bool_byte}
 
 -- a number below 100 has two digits if it is at least 10, and otherwise one
-pub counted : (pair : ℕ) (is_pair : Bool) → pair < 100 → leb 10 pair ≡ is_pair
+pub digit_count-below_100 : (pair : ℕ) (is_pair : Bool) → pair < 100 → leb 10 pair ≡ is_pair
     → 1 + bool_byte is_pair ≡ digit_count 10 pair
-counted pair true small e = sym (digit_count-is 10 pair 2 (omega arith) (omega arith) small (λ _. leb-true 10 pair e))
-counted pair false small e = sym (digit_count-one 10 pair (omega arith) (leb-false 10 pair e))
+digit_count-below_100 pair true small e =
+    sym (digit_count-is 10 pair 2 (omega arith) (omega arith) small (λ _. leb-true 10 pair e))
+digit_count-below_100 pair false small e = sym (digit_count-one 10 pair (omega arith) (leb-false 10 pair e))
 
 -- the characters of the digits of a number, and any second one if there is only one digit
 pub record IsFirstPair (pair first second : ℕ) : Type 0 where
@@ -27,7 +28,7 @@ pub WritesDigits-two : (pair first second : ℕ) {before list : List ℕ} → Is
     → 2 ≤ length before → drop 2 before ≡ list → WritesDigits 10 pair before (first ∷ second ∷ list) 2
 WritesDigits-two pair first second p small e room following =
     let two = p.two (leb-true 10 pair e) in
-    WritesDigits-block (omega arith) (sym (counted pair true small e)) room
+    WritesDigits-block (omega arith) (sym (digit_count-below_100 pair true small e)) room
     (rw (two.0, two.1, ← following) record {
       digits = pair / 10 ∷ pair % 10 ∷ [];
       block = IsBlockOf-pair 10 pair (omega arith) small;
@@ -41,7 +42,7 @@ pub WritesDigits-one : (pair first second : ℕ) {before list : List ℕ} → Is
     → 1 ≤ length before → drop 1 before ≡ list → WritesDigits 10 pair before (first ∷ list) 1
 WritesDigits-one pair first second p small e room following =
     let below = leb-false 10 pair e in
-    WritesDigits-block (omega arith) (sym (counted pair false small e)) room
+    WritesDigits-block (omega arith) (sym (digit_count-below_100 pair false small e)) room
     (rw (p.one below, ← following) record {
       digits = pair ∷ [];
       block = IsBlockOf-one 10 pair below;

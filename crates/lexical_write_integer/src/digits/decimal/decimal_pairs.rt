@@ -1,4 +1,4 @@
-// Writing pairs of decimal digits from the table of radix 10.
+//! Writing pairs of decimal digits from the table of radix 10.
 
 ghost use Rattle.std.specs.Prelude.{◌≡◌, ◌+◌, ◌-◌, ◌*◌, ◌/◌, ◌%◌, ◌^◌, ◌<◌, ◌≤◌, [], ◌∷◌, ◌++◌, length, drop};
 ghost use Rattle.lexical_num.specs.Digit.{digit_char};
@@ -36,7 +36,7 @@ fn first_pair(pair: u32) -> (u8, u8)
 
 /// Writes the one or two digits of a number below 100 to the start of the buffer, and returns how many
 /// there are.
-pub(crate) fn write_one_or_two(pair: u32, buffer: &mut [u8]) -> usize
+pub(crate) fn write_below_100(pair: u32, buffer: &mut [u8]) -> usize
     requires pair { pair < 100 }
     requires room { digit_count 10 pair ≤ length buffer.old }
     ensures digits { WritesDigits 10 pair buffer.old buffer.new result }

@@ -14,7 +14,7 @@ ghost use Rattle.lexical_write_integer.specs.Buffer.{WritesDigits};
 ghost use Rattle.lexical_write_integer.specs.DecimalTurns.{decimal_notes, decimal_notes_32, decimal_notes_64};
 ghost use Rattle.lexical_write_integer.specs.DigitCount.{digit_count};
 
-use super::decimal_pairs::{write_last_ten, write_one_or_two, write_pairs};
+use super::decimal_pairs::{write_below_100, write_last_ten, write_pairs};
 pub use super::kernels::{
     fixed_2, fixed_4, fixed_6, fixed_8_nine, fixed_8_ten, fixed_8_wide, next2,
 };
@@ -29,7 +29,7 @@ fn write_32(n: u32, buffer: &mut [u8], turns: &mut Turns) -> usize
     ensures turns { length turns.new ≡ length turns.old + (result - 1) / 2 }
 {
     if n < 100 {
-        write_one_or_two(n, buffer)
+        write_below_100(n, buffer)
     } else if n < 10_000 {
         write_pairs(fixed_2(n), 1, buffer, turns)
     } else if n < 1_000_000 {
@@ -72,7 +72,7 @@ fn write_64(n: u64, buffer: &mut [u8], turns: &mut Turns) -> usize
     // Short numbers are tested first, as in `write_32`: that mispredicts the fewest branches.
     if n < 10_000 {
         if n < 100 {
-            write_one_or_two(n as u32, buffer)
+            write_below_100(n as u32, buffer)
         } else {
             write_pairs(fixed_2(n as u32), 1, buffer, turns)
         }

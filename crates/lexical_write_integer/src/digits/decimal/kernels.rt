@@ -1,6 +1,6 @@
-// Decimal digits without division. A kernel converts a number to a fixed-point fraction with 32 bits
-// after the point. The whole part of the fraction is the first pair of the number's digits. When the
-// rest is multiplied by 100, the next pair becomes the whole part.
+//! Decimal digits without division. A kernel converts a number to a fixed-point fraction with 32 bits
+//! after the point. The whole part of the fraction is the first pair of the number's digits. When the
+//! rest is multiplied by 100, the next pair becomes the whole part.
 
 ghost use Rattle.std.specs.Prelude.{◌≡◌, ℕ, ◌-◌, ◌*◌, ◌/◌, ◌%◌, ◌^◌, ◌<◌, ◌≤◌};
 ghost use Rattle.lexical_write_integer.specs.Carries.{Carries};
@@ -33,8 +33,8 @@ pub fn fixed_4(n: u32) -> u64
     u64::from(n) * 429_497
 }
 
-/// Returns the fraction of a number from 10^6 to below 10^8: its first pair of digits, and three
-/// pairs after it.
+/// Returns the fraction of a number from 10^6 to below 10^8: its first pair of digits, which is a single
+/// digit below 10^7, and three pairs after it.
 ///
 /// # Panics
 ///

@@ -1,7 +1,7 @@
 //! Writing the digits of a number with a table of digit pairs that the caller passes. `Radix` writes them with the
 //! table of this library.
 
-// `crates/tests/src/integers/tables.rt` has examples.
+// `crates/tests/src/integers/digits_in_each_radix.rt` has examples.
 ghost use Rattle.std.specs.Prelude.{◌≡◌, ◌+◌, ◌≤◌, ◌++◌, IsTrue, length};
 ghost use Rattle.lexical_num.specs.Format.{IsRadix};
 ghost use Rattle.lexical_write_integer.specs.Buffer.{WritesDigits};

@@ -1,4 +1,4 @@
-// Writing binary digits, eight at a time, as the bytes of a word.
+//! Writing binary digits, eight at a time, as the bytes of a word.
 
 ghost use Rattle.std.specs.Prelude.{◌≡◌, ◌+◌, ◌/◌, ◌<◌, ◌≤◌, ◌++◌, length};
 ghost use Rattle.lexical_write_integer.specs.Buffer.{WritesBlock, WritesDigits};

@@ -1,6 +1,6 @@
 //! The compact writer, which writes one digit per iteration.
 
-// `crates/tests/src/integers/tables.rt` has examples.
+// `crates/tests/src/integers/digits_in_each_radix.rt` has examples.
 ghost use Rattle.std.specs.Prelude.{◌≡◌, ◌+◌, ◌/◌, ◌%◌, ◌<◌, ◌≤◌, ◌++◌, [], ◌∷◌, length, drop};
 ghost use Rattle.lexical_num.specs.Digit.{digit_char};
 ghost use Rattle.lexical_num.specs.Format.{IsRadix};
@@ -17,15 +17,15 @@ use lexical_num::digit::digit_to_char;
 use lexical_num::num::UnsignedInteger;
 
 // The number of digits of the largest `u64` in radix 2.
-const MAX_DIGITS: usize = 64;
+const MOST_DIGITS: usize = 64;
 
 // Returns the character of a digit in this radix. In radix 10 and below it is computed.
-fn char_of<const RADIX: u32>(digit: u32) -> u8
-    requires radix { IsRadix RADIX }
-    requires digit { digit < RADIX }
+fn char_of<const R: u32>(digit: u32) -> u8
+    requires radix { IsRadix R }
+    requires digit { digit < R }
     ensures { result ≡ digit_char digit }
 {
-    if RADIX <= 10 {
+    if R <= 10 {
         b'0' + digit as u8
     } else {
         digit_to_char(digit)
@@ -34,38 +34,38 @@ fn char_of<const RADIX: u32>(digit: u32) -> u8
 
 // Writes the digits of a number to the end of the buffer, the last digit first, and returns the index
 // of the first digit.
-fn write_to_end<const RADIX: u32>(value: u64, buffer: &mut [u8], turns: &mut Turns) -> usize
-    requires radix { IsRadix RADIX }
-    requires room { digit_count RADIX value ≤ length buffer.old }
-    ensures place { result + digit_count RADIX value ≡ length buffer.old }
-    ensures digits { IsDigits RADIX value (drop result buffer.new) }
-    ensures notes { turns.new ≡ turns.old ++ compact_notes RADIX value }
+fn write_to_end<const R: u32>(value: u64, buffer: &mut [u8], turns: &mut Turns) -> usize
+    requires radix { IsRadix R }
+    requires room { digit_count R value ≤ length buffer.old }
+    ensures place { result + digit_count R value ≡ length buffer.old }
+    ensures digits { IsDigits R value (drop result buffer.new) }
+    ensures notes { turns.new ≡ turns.old ++ compact_notes R value }
 {
-    let radix = u64::from(RADIX);
+    let radix = u64::from(R);
     let mut index = buffer.len();
     let mut left = value;
     while left >= radix {
         let next = left / radix;
         turns.tick(next);
         index -= 1;
-        buffer[index] = char_of::<RADIX>((left % radix) as u32);
+        buffer[index] = char_of::<R>((left % radix) as u32);
         left = next;
     }
     index -= 1;
-    buffer[index] = char_of::<RADIX>(left as u32);
+    buffer[index] = char_of::<R>(left as u32);
     index
 }
 
 // Writes the digits of a number to the start of the buffer. Returns how many there are.
-fn write_each_digit<const RADIX: u32>(value: u64, buffer: &mut [u8], turns: &mut Turns) -> usize
-    requires radix { IsRadix RADIX }
-    requires room { digit_count RADIX value ≤ length buffer.old }
-    ensures digits { WritesDigits RADIX value buffer.old buffer.new result }
-    ensures notes { turns.new ≡ turns.old ++ compact_notes RADIX value }
+fn write_each_digit<const R: u32>(value: u64, buffer: &mut [u8], turns: &mut Turns) -> usize
+    requires radix { IsRadix R }
+    requires room { digit_count R value ≤ length buffer.old }
+    ensures digits { WritesDigits R value buffer.old buffer.new result }
+    ensures notes { turns.new ≡ turns.old ++ compact_notes R value }
 {
     // The last digit is computed first, so the digits go to a temporary array.
-    let mut digits = [0u8; MAX_DIGITS];
-    let index = write_to_end::<RADIX>(value, &mut digits, turns);
+    let mut digits = [0u8; MOST_DIGITS];
+    let index = write_to_end::<R>(value, &mut digits, turns);
     copy_to_front(&digits[index..], buffer)
 }
 

@@ -1,5 +1,5 @@
-// Counting the digits of a number, and then writing them, four at a time: for numbers of one or two digits, and for the
-// radices in which a count needs no division.
+//! Counting the digits of a number, and then writing them, four at a time: for numbers of one or two digits, and for
+//! the radices in which a count needs no division.
 
 // `turns` is the counter for the notes of a count, and `loop_turns` that for the notes of the writing.
 ghost use Rattle.std.specs.Prelude.{◌≡◌, ◌*◌, ◌^◌, ◌<◌, ◌≤◌, ◌++◌, length};

@@ -1,5 +1,5 @@
-// Counting the digits of a number by division, and writing them from the same quotients: for the radices in which a
-// count needs divisions.
+//! Counting the digits of a number by division, and writing them from the same quotients: for the radices in which a
+//! count needs divisions.
 
 // `turns` is the counter for the notes of a count, and `loop_turns` that for the notes of the writing.
 ghost use Rattle.std.specs.Prelude.{◌≡◌, ◌*◌, ◌^◌, ◌<◌, ◌≤◌, ◌++◌, length};

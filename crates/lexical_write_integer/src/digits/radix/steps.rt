@@ -1,5 +1,5 @@
-// The steps of the writers, each for two or four digits: removing them from a number, and writing them from a table of
-// digit pairs.
+//! The steps of the writers, each for two or four digits: removing them from a number, and writing them from a table of
+//! digit pairs.
 
 // `turns` is the counter for the notes of a count, and `loop_turns` that for the notes of the writing.
 ghost use Rattle.std.specs.Prelude.{◌≡◌, ◌+◌, ◌*◌, ◌/◌, ◌%◌, ◌^◌, ◌<◌, ◌≤◌, ◌++◌, length};

@@ -1,7 +1,7 @@
 // Made by `strip` from crates/lexical_parts/src/formatting/cell.rt. Edit that file, not this one.
 
-// A number in a column of a format string, such as `{:>20}`: its text with the fill before it, in one piece. The
-// standard library writes each character of the fill by itself.
+//! A number in a column of a format string, such as `{:>20}`: its text with the fill before it, in one piece. The
+//! standard library writes each character of the fill by itself.
 
 use crate::parts::layout::column::Right;
 use crate::parts::part::Part;

@@ -41,8 +41,8 @@ pub trait Show: Part {
     ///
     /// Returns the error of the writer, and an error for a `Bytes` that is not UTF-8, if it is alone, or in a tuple, an
     /// `Option`, an `OrElse`, a `Joined` or a reference. For a part of your own it also returns an error if its room is
-    /// above 256 bytes and you do not define this method, or if it does not write the same text each time. If it returns
-    /// an error or panics, the writer may have a part of the text.
+    /// above 256 bytes and you do not define this method, or if it does not write the same text each time. If it
+    /// returns an error or panics, the writer may have a part of the text.
     ///
     /// # Panics
     ///

@@ -15,7 +15,8 @@ use core::fmt;
 /// The digits of an unsigned number in radix 16, without a prefix: `Hex(255u32)` writes `FF`. Its room
 /// is that of its type: 2 bytes for a `u8`, and 16 for a `u64`.
 ///
-/// A literal needs a type, because an `i32` is signed: `Hex(255u8)`. A signed number in a radix is written by `Formatted`.
+/// A literal needs a type, because an `i32` is signed: `Hex(255u8)`. A signed number in a radix is written by
+/// `Formatted`.
 ///
 /// ```
 /// use cojimuran::{Hex, Part};
@@ -35,6 +36,7 @@ impl<T: Radix> Part for Hex<T> {
     #[inline(always)]
     #[track_caller]
     fn write_to(self, buffer: &mut [u8]) -> usize {
+        // Its code is short enough for each caller.
         write_in_constant_radix(self.0, 16, buffer)
     }
 
@@ -80,6 +82,7 @@ impl<T: Radix> Part for Binary<T> {
     #[inline(always)]
     #[track_caller]
     fn write_to(self, buffer: &mut [u8]) -> usize {
+        // It writes by a call, because the code of radix 2 is long.
         self.0.radix(2, buffer)
     }
 

@@ -11,7 +11,7 @@ use crate::write_integer::ToLexical;
 use crate::write_integer::format::STANDARD;
 
 // The room of a number in scientific notation of the longest type.
-const LONGEST: usize = 33;
+const LONGEST_SCIENTIFIC: usize = 33;
 
 // Returns how many digits are left without the zeros at the end. At least the first `least` digits are left.
 #[inline]
@@ -88,7 +88,7 @@ impl<T: ToLexical> Part for Scientific<T> {
     #[inline]
     fn text_len(self) -> Option<usize> {
         // How many zeros the number ends with, only its digits say.
-        Some(self.write_to(&mut [0; LONGEST]))
+        Some(self.write_to(&mut [0; LONGEST_SCIENTIFIC]))
     }
 
     #[inline(always)]

@@ -1,6 +1,6 @@
 // Made by `strip` from crates/lexical_write_integer/src/digits/pairs.rt. Edit that file, not this one.
 
-// Tables of the pairs of digits of a radix: `00`, `01` and so on.
+//! Tables of the pairs of digits of a radix: `00`, `01` and so on.
 
 use crate::tables::get_table;
 

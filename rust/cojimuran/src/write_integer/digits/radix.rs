@@ -106,8 +106,8 @@ pub(crate) fn write_in_radix<T: UnsignedInteger>(value: T, radix: u32, buffer: &
     by_radix!(radix, write_by_table or write_short_inline::<T>(value, buffer))
 }
 
-// Writes the digits as `write_in_radix` does, but by a call. Only one or two digits in a radix that is no power of 2 are
-// written in the caller. So a caller whose radix is constant has little code.
+// Writes the digits as `write_in_radix` does, but by a call. Only one or two digits in a radix that is no power of 2
+// are written in the caller. So a caller whose radix is constant has little code.
 #[inline(always)]
 #[track_caller]
 fn write_in_radix_out_of_line<T: UnsignedInteger>(

@@ -1,14 +1,14 @@
 use Rattle.std.proofs.Common.{length, ◌-◌, ◌≤◌, arith}
 use Rattle.lexical_write_integer.proofs.Buffers.Prefixes.{Writes-is}
 use Rattle.lexical_parts.proofs.OfLayout.Kept.{kept_after, kept_before}
-use Rattle.lexical_parts.proofs.OfLayout.TextsAtIndex.{at_is, before_at, there_at, count_at, after_at}
+use Rattle.lexical_parts.proofs.OfLayout.TextsAtIndex.{Writes-at, before_at, there_at, count_at, after_at}
 use Rattle.lexical_parts.proofs.part.Part.write_at.Goals as goal
 
 pub returns-clause-text : goal.returns-clause-text
 returns-clause-text g c =
     let old = c.args.buffer.now in
     let inside : c.args.index ≤ length old = omega (arith, c.requires.room) in
-    at_is c.args.index (length old - c.args.index) old c.write_to.new.buffer c.write_to.result inside
+    Writes-at c.args.index (length old - c.args.index) old c.write_to.new.buffer c.write_to.result inside
     c.write_to.ensures.text
 
 pub returns-clause-front : goal.returns-clause-front

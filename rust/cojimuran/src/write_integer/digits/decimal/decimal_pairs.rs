@@ -1,6 +1,6 @@
 // Made by `strip` from crates/lexical_write_integer/src/digits/decimal/decimal_pairs.rt. Edit that file, not this one.
 
-// Writing pairs of decimal digits from the table of radix 10.
+//! Writing pairs of decimal digits from the table of radix 10.
 
 use super::kernels::next2;
 use crate::write_integer::digits::pairs::RadixTable;
@@ -30,7 +30,7 @@ fn first_pair(pair: u32) -> (u8, u8) {
 /// there are.
 #[inline(always)]
 #[track_caller]
-pub(crate) fn write_one_or_two(pair: u32, buffer: &mut [u8]) -> usize {
+pub(crate) fn write_below_100(pair: u32, buffer: &mut [u8]) -> usize {
     // A single digit is written over the zero after it, to avoid a branch.
     let is_pair = pair >= 10;
     let (first, second) = first_pair(pair);

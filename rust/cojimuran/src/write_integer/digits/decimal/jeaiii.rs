@@ -6,7 +6,7 @@
 //! (<https://github.com/jeaiii/itoa>); Lemire, Kaser and Kurz, "Faster Remainder by Direct Computation"
 //! (2019), describe how digits are obtained from the fraction of a product with a reciprocal.
 
-use super::decimal_pairs::{write_last_ten, write_one_or_two, write_pairs};
+use super::decimal_pairs::{write_below_100, write_last_ten, write_pairs};
 pub use super::kernels::{
     fixed_2, fixed_4, fixed_6, fixed_8_nine, fixed_8_ten, fixed_8_wide, next2,
 };
@@ -17,7 +17,7 @@ use crate::num::num::UnsignedInteger;
 #[track_caller]
 fn write_32(n: u32, buffer: &mut [u8]) -> usize {
     if n < 100 {
-        write_one_or_two(n, buffer)
+        write_below_100(n, buffer)
     } else if n < 10_000 {
         write_pairs(fixed_2(n), 1, buffer)
     } else if n < 1_000_000 {
@@ -51,7 +51,7 @@ fn write_64(n: u64, buffer: &mut [u8]) -> usize {
     // Short numbers are tested first, as in `write_32`: that mispredicts the fewest branches.
     if n < 10_000 {
         if n < 100 {
-            write_one_or_two(n as u32, buffer)
+            write_below_100(n as u32, buffer)
         } else {
             write_pairs(fixed_2(n as u32), 1, buffer)
         }

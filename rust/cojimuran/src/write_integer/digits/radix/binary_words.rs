@@ -1,6 +1,6 @@
 // Made by `strip` from crates/lexical_write_integer/src/digits/radix/binary_words.rt. Edit that file, not this one.
 
-// Writing binary digits, eight at a time, as the bytes of a word.
+//! Writing binary digits, eight at a time, as the bytes of a word.
 
 use super::count_then_write::count_of_nonzero;
 use super::steps::remove_four;

@@ -1,6 +1,6 @@
 // Made by `strip` from crates/lexical_write_integer/src/digits/radix/by_radix.rt. Edit that file, not this one.
 
-// Choosing the code of a radix.
+//! Choosing the code of a radix.
 
 // Calls the instance for this radix, which is from 2 to 36, of a function whose last or only generic parameter is
 // the radix. Each instance divides by a constant. Of two functions the first is for the powers of 2.

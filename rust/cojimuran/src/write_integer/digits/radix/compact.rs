@@ -9,12 +9,12 @@ use crate::num::num::UnsignedInteger;
 use crate::write_integer::buffer::copy_to_front;
 
 // The number of digits of the largest `u64` in radix 2.
-const MAX_DIGITS: usize = 64;
+const MOST_DIGITS: usize = 64;
 
 // Returns the character of a digit in this radix. In radix 10 and below it is computed.
 #[inline]
-fn char_of<const RADIX: u32>(digit: u32) -> u8 {
-    if RADIX <= 10 {
+fn char_of<const R: u32>(digit: u32) -> u8 {
+    if R <= 10 {
         b'0' + digit as u8
     } else {
         digit_to_char(digit)
@@ -24,27 +24,27 @@ fn char_of<const RADIX: u32>(digit: u32) -> u8 {
 // Writes the digits of a number to the end of the buffer, the last digit first, and returns the index
 // of the first digit.
 #[inline]
-fn write_to_end<const RADIX: u32>(value: u64, buffer: &mut [u8]) -> usize {
-    let radix = u64::from(RADIX);
+fn write_to_end<const R: u32>(value: u64, buffer: &mut [u8]) -> usize {
+    let radix = u64::from(R);
     let mut index = buffer.len();
     let mut left = value;
     while left >= radix {
         let next = left / radix;
         index -= 1;
-        buffer[index] = char_of::<RADIX>((left % radix) as u32);
+        buffer[index] = char_of::<R>((left % radix) as u32);
         left = next;
     }
     index -= 1;
-    buffer[index] = char_of::<RADIX>(left as u32);
+    buffer[index] = char_of::<R>(left as u32);
     index
 }
 
 // Writes the digits of a number to the start of the buffer. Returns how many there are.
 #[inline]
-fn write_each_digit<const RADIX: u32>(value: u64, buffer: &mut [u8]) -> usize {
+fn write_each_digit<const R: u32>(value: u64, buffer: &mut [u8]) -> usize {
     // The last digit is computed first, so the digits go to a temporary array.
-    let mut digits = [0u8; MAX_DIGITS];
-    let index = write_to_end::<RADIX>(value, &mut digits);
+    let mut digits = [0u8; MOST_DIGITS];
+    let index = write_to_end::<R>(value, &mut digits);
     copy_to_front(&digits[index..], buffer)
 }
 

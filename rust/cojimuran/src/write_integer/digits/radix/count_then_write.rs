@@ -1,7 +1,7 @@
 // Made by `strip` from crates/lexical_write_integer/src/digits/radix/count_then_write.rt. Edit that file, not this one.
 
-// Counting the digits of a number, and then writing them, four at a time: for numbers of one or two digits, and for the
-// radices in which a count needs no division.
+//! Counting the digits of a number, and then writing them, four at a time: for numbers of one or two digits, and for
+//! the radices in which a count needs no division.
 
 use super::steps::{
     count_one_or_two_by_division, fourth_power, last_four, remove_four, remove_two,

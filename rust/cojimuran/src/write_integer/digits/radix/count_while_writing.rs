@@ -1,7 +1,7 @@
 // Made by `strip` from crates/lexical_write_integer/src/digits/radix/count_while_writing.rt. Edit that file, not this one.
 
-// Counting the digits of a number by division, and writing them from the same quotients: for the radices in which a
-// count needs divisions.
+//! Counting the digits of a number by division, and writing them from the same quotients: for the radices in which a
+//! count needs divisions.
 
 use super::steps::{
     count_one_or_two_by_division, fourth_power, last_four, remove_four, remove_two,

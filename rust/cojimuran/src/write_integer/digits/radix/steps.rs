@@ -1,7 +1,7 @@
 // Made by `strip` from crates/lexical_write_integer/src/digits/radix/steps.rt. Edit that file, not this one.
 
-// The steps of the writers, each for two or four digits: removing them from a number, and writing them from a table of
-// digit pairs.
+//! The steps of the writers, each for two or four digits: removing them from a number, and writing them from a table of
+//! digit pairs.
 
 use crate::write_integer::digits::pairs::RadixTable;
 

@@ -15,16 +15,16 @@ use Rattle.lexical_write_integer.proofs.OfDigits.Powers.{pow-one}
 use Rattle.lexical_write_integer.proofs.digits.radix.compact.write_to_end.Goals as goal
 use Rattle.lexical_write_integer.proofs.digits.radix.compact.write_to_end.Goals.{In-loop-left, After-loop-left}
 
-long : (g : _) (c : In-loop-left g) → g.row.RADIX ^ 1 ≤ c.loop-left.left
+long : (g : _) (c : In-loop-left g) → g.row.R ^ 1 ≤ c.loop-left.left
 long g c = rw pow-one (omega arith)
 
 -- the next digit has room, and so have those before it
 room : (g : _) (c : In-loop-left g) → length c.args.buffer.now - c.loop-left.index
-    + 1 < digit_count g.row.RADIX c.args.value
+    + 1 < digit_count g.row.R c.args.value
 room g c = IsDivided-room c.requires.radix.at_least_two c.loop-left.invariant.divided (long g c)
 
 block : (g : _) (c : In-loop-left g)
-    → WritesBlock g.row.RADIX 1 (c.loop-left.left % g.row.RADIX ^ 1) (c.loop-left.index - 1) c.loop-left.buffer
+    → WritesBlock g.row.R 1 (c.loop-left.left % g.row.R ^ 1) (c.loop-left.index - 1) c.loop-left.buffer
     (set c.loop-left.buffer (c.loop-left.index - 1) (digit_char (c.loop-left.left % c.from-radix.result)))
 block g c = grind (arith, pow-one, WritesBlock-one, mod-lt, room)
 
@@ -40,7 +40,7 @@ loop-left-preserved g c =
     omega (arith, room g c', IsWrittenBack-counts two c.loop-left.invariant.written) in
     let turn : taken + 1 ≡ length c.args.buffer.now - (c.loop-left.index - 1) = omega (arith, place) in
     let order : 1 + taken ≡ length c.args.buffer.now - (c.loop-left.index - 1) = omega (arith, place) in
-    let next : c.loop-left.left / c.from-radix.result ≡ c.loop-left.left / g.row.RADIX ^ 1 =
+    let next : c.loop-left.left / c.from-radix.result ≡ c.loop-left.left / g.row.R ^ 1 =
     rw (pow-one, c.from-radix.ensures) refl in
     record {
       within = omega arith;
@@ -49,8 +49,8 @@ loop-left-preserved g c =
       divided = rw turn at (IsDivided-more two c.loop-left.invariant.divided (long g c') next c.tick.ensures);
     }
 
-single : (g : _) (c : After-loop-left g) → digit_count g.row.RADIX c.loop-left.left ≡ 1
-single g c = digit_count-one g.row.RADIX c.loop-left.left c.requires.radix.at_least_two (omega arith)
+single : (g : _) (c : After-loop-left g) → digit_count g.row.R c.loop-left.left ≡ 1
+single g c = digit_count-one g.row.R c.loop-left.left c.requires.radix.at_least_two (omega arith)
 
 pub returns-clause-place : goal.returns-clause-place
 returns-clause-place g c =
@@ -66,12 +66,12 @@ returns-clause-digits g c =
     let two = c.requires.radix.at_least_two in
     let counts = IsWrittenBack-counts two c.loop-left.invariant.written in
     let place : c.loop-left.index ≡ c.loop-left.index - 1 + 1 = omega (arith, counts, single g c') in
-    IsDigits-block g.row.RADIX c.args.value (1 + (length c.args.buffer.now - c.loop-left.index))
+    IsDigits-block g.row.R c.args.value (1 + (length c.args.buffer.now - c.loop-left.index))
     (c.loop-left.index - 1) _ _ two
     (omega (arith, counts, single g c')) (omega (arith, place))
     (IsWrittenBack-last (IsWrittenBack-at place c.loop-left.invariant.written)
     (rw c.char_of-2.ensures
-    (WritesBlock-one g.row.RADIX c.loop-left.left (c.loop-left.index - 1) c.loop-left.buffer (omega arith)
+    (WritesBlock-one g.row.R c.loop-left.left (c.loop-left.index - 1) c.loop-left.buffer (omega arith)
     (omega (arith, place)))))
 
 pub returns-clause-notes : goal.returns-clause-notes

@@ -1,5 +1,7 @@
 -- `to_lexical_with_options` writes the text of a number and returns a borrow of it. The borrow checker proves no
 -- write-back clause for a borrow that is passed on, so this proof goes through the code by hand, once for all types.
+-- `X` is the type of the number, and `Y` that of the options. The names that begin with `g`, `d` and `m` are of the
+-- traits that these types implement: the ghost members, the functions, and that the functions meet their contracts.
 use Rattle.lexical_num.proofs.Steps.{refl, ap, ℕ, ◌≤◌, List, [], ◌∷◌, length, take, Val, full_share, emp, id⊢, fact}
 use Rattle.lexical_num.proofs.Steps.{fact_i, toks, tables, a_type, named, dcons}
 use Rattle.lexical_num.proofs.Steps.{dnil, inst_fn, flft, bounded, copied, copied_laws, u8, usize, no, plain, MutSlice}
