@@ -1,13 +1,14 @@
 //! Leaves out counters, which are values that only contracts read, and calls of laws, which only prove something.
 //!
-//! A statement is left out if it only calls a method of a counter, or a law; and then what is empty or unused around it.
-//! So are parameters, arguments and fields that are counters, and functions that only pass a new counter to another one.
-//! What else names a counter or calls a law stays, and is refused at the end.
+//! A statement is left out if it only calls a method of a counter, or a law; and then what is empty or unused around
+//! it. So are parameters, arguments and fields that are counters, and functions that only pass a new counter to another
+//! one. What else names a counter or calls a law stays, and is refused at the end.
 
 use crate::items::{Function, after_type_arguments, elements, functions};
 use crate::items::{remove, remove_and_keep_comment, remove_element};
 use crate::left_out::Names;
 use crate::tokens::{Token, find, opening, words};
+use std::ops::Range;
 
 /// The types of counters, and the names that all variables, parameters and fields of these types have.
 pub(crate) const COUNTERS: [&str; 5] = ["Turns", "Trace", "turns", "loop_turns", "trace"];
@@ -29,7 +30,12 @@ pub(crate) fn without_counters(tokens: &mut Vec<Token>, laws: &Names) {
             let start = statement(tokens, end);
             if is_for_proofs(&tokens[start..end], laws) {
                 remove(tokens, start..end + 1);
-                without_rest(tokens, start);
+                let mut rest = start;
+                while let Some(empty) = empty_if(tokens, rest) {
+                    rest = empty.start;
+                    remove(tokens, empty);
+                }
+                without_binding(tokens, rest);
             }
         }
     }
@@ -70,17 +76,17 @@ fn is_for_proofs(statement: &[Token], laws: &Names) -> bool {
     (is_method_of_counter || laws.contains(&statement[name].text)) && !(0..statement.len()).any(has_effect)
 }
 
-/// Leaves out what is left around a statement that was at an index. That is an `if` with nothing in it whose condition
-/// calls nothing. And in `let NAME = VALUE; NAME }`, where only the statement read the name, it leaves `VALUE }`.
-fn without_rest(tokens: &mut Vec<Token>, at: usize) {
-    if tokens[at - 1] == "{" && tokens[at] == "}" {
-        let start = statement(tokens, at - 1);
-        let head = words(&tokens[start..at - 1]);
-        if head.starts_with("if ") && !head.contains('(') && tokens[at + 1] != "else" {
-            remove(tokens, start..at + 1);
-            without_rest(tokens, start);
-        }
-    } else if tokens[at - 1] == ";" && tokens[at].is_word() && tokens[at + 1] == "}" {
+/// Returns where the `if` is around a statement that was at an index, if nothing else is in it and its condition calls
+/// nothing.
+fn empty_if(tokens: &[Token], at: usize) -> Option<Range<usize>> {
+    let start = (tokens[at - 1] == "{" && tokens[at] == "}").then(|| statement(tokens, at - 1))?;
+    let head = words(&tokens[start..at - 1]);
+    (head.starts_with("if ") && !head.contains('(') && tokens[at + 1] != "else").then_some(start..at + 1)
+}
+
+/// Makes `VALUE }` of `let NAME = VALUE; NAME }`, if `NAME }` is at an index. Only what is left out has read the name.
+fn without_binding(tokens: &mut Vec<Token>, at: usize) {
+    if tokens[at - 1] == ";" && tokens[at].is_word() && tokens[at + 1] == "}" {
         let binding = format!("let {} =", tokens[at].text);
         let is_binding = |start: &usize| words(&tokens[*start..*start + 3]) == binding;
         let start = (0..at - 2).rev().find(|start| is_binding(start) && find(tokens, *start, &[";"]) == at - 1);
@@ -98,8 +104,8 @@ fn is_counter(element: &[Token]) -> bool {
     element[start].is_in(&COUNTERS) && (rest.is_empty() || rest[0] == ":" || words(rest) == ":: new ( )")
 }
 
-/// Gives each function `NAME_counted`, whose counter is left out, the name `NAME`. If another function of that name does
-/// nothing but to call it, with its own parameters, one function is made of the two.
+/// Gives each function `NAME_counted`, whose counter is left out, the name `NAME`. If another function of that name
+/// does nothing but to call it, with its own parameters, one function is made of the two.
 pub(crate) fn without_counted(tokens: &mut Vec<Token>) {
     let is_counted = |each: &Function| each.name(tokens).strip_suffix(COUNTED).map(str::to_owned);
     let names: Names = functions(tokens).iter().filter_map(is_counted).collect();

@@ -149,8 +149,8 @@ pub(crate) const SOURCES: &[Source] = &[
                 "buffer.rt texts/to_lexical.rt texts/integers.rt digits/write.rt digits/decimal.rt
                 digits/decimal/jeaiii.rt digits/pairs.rt digits/decimal/kernels.rt digits/decimal/decimal_pairs.rt
                 digits/radix/count_while_writing.rt digits/radix/steps.rt digits/radix/count_then_write.rt write_digits
-                write_by_fast_count write_by_table radix write_in_radix_out_of_line write_in_radix write_in_constant_radix write_padded
-                digit_count most_digits fast_log2",
+                write_by_fast_count write_by_table radix write_in_radix_out_of_line write_in_radix
+                write_in_constant_radix write_padded digit_count most_digits fast_log2",
             ),
         ],
         left_out: "turns",
