@@ -40,7 +40,12 @@ calls() {
 }
 
 # reports WORDS COMPILER OLD NEW FLAG..: whether the compiler says these words, or nothing if there are none, of each
-# call that has OLD, with NEW in its place. Calls are not inlined, so an attribute is that of the function.
+# call that has OLD, with NEW in its place. Calls are not inlined, so an attribute is that of the function. For example,
+# of `reports . 'cc -std=c11' '(1' '((char)1'` the calls in calls.c are
+#
+#     used(lexical_decimal((char)1, buffer, 4));
+#     used(lexical_write((char)1, format, buffer, 4));
+#     used(lexical_length((char)1, format));
 reports() {
   words=$1 compiler=$2 old=$3 new=$4; shift 4
   calls "${compiler##*=}" | sed -n "s/lexical.*[)]/used(&)/; s/$old/$new/p" > "$work/calls"

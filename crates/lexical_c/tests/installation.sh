@@ -37,7 +37,8 @@ uninstalls() {
 honours_folders() {
   other=$work/other
   set -- prefix="$work/split" includedir="$other/include" mandir="$other/man"
-  make_c "$@" install && prints '' find "$work/split" -name '*.h' -o -name '*.3' && ls "$other/man/man3/lexical_pad.3" &&
+  make_c "$@" install && prints '' find "$work/split" -name '*.h' -o -name '*.3' &&
+    ls "$other/man/man3/lexical_pad.3" &&
     $CC -fsyntax-only $(PKG_CONFIG_PATH="$work/split/lib/pkgconfig" pkg-config --cflags lexical_c) \
       "$crate/examples/first.c" && make_c "$@" uninstall && prints '' find "$work/split" "$other" ! -type d
 }
@@ -120,6 +121,21 @@ links_with_pkg_config() (
 builds_with_cmake() {
   project=$work/project built=$work/project/build
   fails grep -r -F "$prefix" "$folder/cmake" && mkdir "$project" && cp "$crate/examples/first.c" "$project" || return
+  # What the project below asks for, and whether it is found.
+  found="1.0: 1
+$version;EXACT: 1
+1.0...2: 1
+1.0.9;EXACT: 0
+0.9: 0
+1.999: 0
+1.999...2: 0
+2.0: 0
+1.0;COMPONENTS;static: 1
+1.0;COMPONENTS;other: 0
+later 1.0...1.9: 1
+later 1.0...1.8: 0
+later 1.0...<1.9: 0
+for another machine: 0"
   # Version 1.9 of a package with the same rule.
   : > "$project/laterConfig.cmake"
   sed "s/(PACKAGE_VERSION $version)/(PACKAGE_VERSION 1.9)/" "$folder/cmake/lexical_c/lexical_cConfigVersion.cmake" \
@@ -135,7 +151,7 @@ endforeach()
 foreach(wanted 1.0...1.9 1.0...1.8 1.0...<1.9)
   unset(later_DIR CACHE)
   find_package(later \${wanted} QUIET PATHS "$project" NO_DEFAULT_PATH)
-  message(STATUS "wanted \${wanted}: \${later_FOUND}")
+  message(STATUS "wanted later \${wanted}: \${later_FOUND}")
 endforeach()
 set(size_of_a_pointer \${CMAKE_SIZEOF_VOID_P})
 set(CMAKE_SIZEOF_VOID_P 2)
@@ -153,7 +169,7 @@ foreach(kind shared static lexical_c)
 endforeach()
 END
   lexical_c_DIR="$folder/cmake/lexical_c" CC="$CC" cmake -S "$project" -B "$built" > "$work/said" &&
-    prints '1 1 1 0 0 0 0 0 1 0 1 0 0 0' echo $(sed -n 's/^-- wanted .*: //p' "$work/said") && cmake --build "$built" &&
+    prints "$found" sed -n 's/^-- wanted //p' "$work/said" && cmake --build "$built" &&
     prints 1234567 "$built/shared" && prints 1234567 "$built/static" && prints 1234567 "$built/lexical_c" &&
     prints main names '-D --defined-only' "$built/libfirst.so" &&
     readelf -d "$built/lexical_c" | grep "NEEDED.*\[liblexical_c.so.$major\]"
@@ -212,7 +228,8 @@ check_installation() {
   expect 'make uninstall' uninstalls
   expect_with pkg-config 'includedir and mandir' honours_folders
   expect 'make check' prints 'the static and the shared library have passed' make_c check
-  [ "$builder$is_quick$TARGET" = rustc ] || return
+  # The packages are built by rustc for this machine, which takes minutes.
+  if [ "$builder" != rustc ] || [ -n "$is_quick" ] || [ -n "$TARGET" ]; then return; fi
   expect_with 'dh dpkg-buildpackage lintian cargo rustfmt' 'the Debian packages' makes_packages deb
   expect_with rpmbuild 'the RPMs' makes_packages rpm
 }
