@@ -33,7 +33,9 @@
 //! | [`Formatted`] | a number in a [`NumberFormat`], which has a radix, groups of digits or a `+` |
 //! | [`Fixed`], [`GroupedFixed`], [`TrimmedFixed`] | an amount, such as `-19.95` |
 //! | [`Padded`], [`PaddedDigits`], [`ZeroPadded`] | leading zeros, as in `07:05` |
-//! | [`Decimal`], [`Plus`], [`Scientific`] | a number of a generic type, with a `+`, or with an exponent |
+//! | [`Decimal`] | a number of a generic type in decimal |
+//! | [`Plus`] | a number in decimal with a `+` or a `-` |
+//! | [`Scientific`] | a number with an exponent, such as `1.234e-56` |
 //! | [`Left`], [`Right`], [`Center`] | a part in a column |
 //! | [`Joined`], [`OrElse`] | the parts of a slice with separators, or a part in the place of `None` |
 //! | [`Bytes`], [`HexBytes`], [`Byte`] | bytes, or bytes in hexadecimal |
@@ -89,10 +91,14 @@
 //! # Options in a format string
 //!
 //! Most parts have `Display`. A tuple, an `Option`, a [`Byte`], a [`Bytes`] and a [`Sign`] have none, and a part of your
-//! own has one only if you write it: print them by [`Shown`]. Parts that are one number, except [`Scientific`], take the width, the fill, the `+`
-//! and the `0` of an integer; `#` and a precision have no effect on them. A [`Displayed`] passes all options to its
-//! value. All other parts, among them [`Shown`] and [`Lower`] of a number, take the width, the fill and the precision
-//! of a `&str`:
+//! own has one only if you write it: print them by [`Shown`]. The others take these options:
+//!
+//! - [`Decimal`], [`Plus`], [`Digits`], [`Hex`], [`FullHex`], [`Binary`], [`Formatted`], [`Fixed`], [`GroupedFixed`],
+//!   [`TrimmedFixed`], [`Padded`] and [`PaddedDigits`] take the width, the fill, the `+` and the `0` of an integer. `#`
+//!   and a precision have no effect on them.
+//! - A [`Displayed`] passes all options to its value.
+//! - All other parts, among them [`Shown`], [`Lower`] and [`ZeroPadded`], take the width, the fill and the precision of a
+//!   `&str`.
 //!
 //! ```
 //! use cojimuran::{Hex, Lower, Shown};
@@ -107,14 +113,15 @@
 //!
 //! # A part of your own
 //!
-//! It delegates to a part of this crate. A part is `Copy`, so for a type that is not, write the two `impl` for
-//! `&YourType`:
+//! It delegates to a part of this crate. A part is `Copy`. If your type is not, implement both traits for `&YourType`:
 //!
 //! ```
 #![doc = include_str!("../examples/own_part.rs")]
 //! ```
 //!
 //! # If it does not compile
+//!
+//! In these messages `write_pieces` or another call may stand for `to_str`.
 //!
 //! | rustc says | write |
 //! |---|---|
@@ -128,8 +135,9 @@
 //! | no method named `write_pieces` | `use cojimuran::Show` |
 //! | no method named `append_to`, or unresolved import `cojimuran::Append` | `use cojimuran::Append`, and the feature `alloc` |
 //! | `(&str, u8)` doesn't implement `Display` | `Shown((..))` |
+//! | type alias takes 1 generic argument but 2 generic arguments were supplied | the names that you use, in place of `use cojimuran::*`, which also imports a `Result` |
 //!
-//! # What is written is read back
+//! # Reading numbers back
 //!
 //! `parse` of the standard library reads a decimal number back, and `from_str_radix` one in another radix. They do not
 //! read groups, a decimal point or an exponent:
