@@ -1,6 +1,6 @@
 use Rattle.std.proofs.Common.{◌∙◌}
 use Rattle.std.proofs.lemmas.List.{take_at}
-use Rattle.tests.proofs.integers.tables.longer_table.Goals as goal
+use Rattle.tests.proofs.integers.digits_in_each_radix.longer_table.Goals as goal
 
 pub algorithm-count-requires-clause-table : goal.algorithm-count-requires-clause-table
 algorithm-count-requires-clause-table g c =
