@@ -15,6 +15,8 @@ pub mod Points
 pub mod FixedTexts
 -- numbers of units without their point, which std reads
 pub mod FixedReads
+-- the bytes of numbers of units
+pub mod FixedBytes
 -- numbers with zeros after their sign, which std reads
 pub mod ZeroReads
 -- the first digit with a point, and an exponent

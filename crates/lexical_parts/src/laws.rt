@@ -1,5 +1,8 @@
 //! Laws on the texts of parts, for callers.
 
+// Which bytes a text does not have.
+pub(crate) mod bytes;
+
 // What equal texts have in common.
 pub(crate) mod equal;
 

@@ -46,9 +46,10 @@ mod laws;
 
 pub use formatting::show::Show;
 pub use formatting::shown::Shown;
+pub use laws::bytes::fixed_has_no;
 pub use laws::equal::{
-    equal_fixed, equal_hex_bytes, equal_padded_pairs, equal_pairs, equal_scientific,
-    equal_zero_padded, padded_decides, same_parts, same_split,
+    equal_amounts, equal_fixed, equal_hex_bytes, equal_padded_pairs, equal_pairs, equal_scientific,
+    equal_zero_padded, padded_decides, same_before, same_parts, same_split,
 };
 pub use laws::positions::{byte_starts_at, part_starts_at};
 pub use laws::read_back::{fixed_read_back, zero_padded_read_back};

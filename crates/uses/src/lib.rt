@@ -29,6 +29,7 @@ pub mod uuid;
 pub mod accounted;
 pub mod amount;
 pub mod date_time;
+pub mod price;
 pub mod time_of_day;
 
 // Lines, rows and dumps.

@@ -1,6 +1,6 @@
 //! A digit in radix 10^19, which is a part of a text: it is written in nineteen digits.
 
-ghost use Rattle.std.specs.Prelude.{◌^◌, ◌<◌, ⊤};
+ghost use Rattle.std.specs.Prelude.{◌^◌, ◌<◌};
 
 use lexical_parts::{Padded, Part};
 
@@ -16,8 +16,6 @@ impl Part for Limb {
     ghost use Rattle.uses.specs.Limbs.{IsLimb};
 
     ghost is_text = { IsLimb };
-
-    ghost is_valid = { λ _. ⊤ };
 
     ghost room = { λ _. 19 };
 

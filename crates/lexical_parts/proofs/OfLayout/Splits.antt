@@ -6,7 +6,7 @@ use Rattle.std.specs.Cmp.Lexicographic.{slice_cmp}
 use Rattle.std.specs.Ordering.{nat_cmp, ordering_then}
 use Rattle.std.specs.declared.cmp.Ordering.{Ordering}
 use Rattle.std.specs.declared.cmp.Ordering.TheVariants.{Less, Equal, Greater}
-use Rattle.std.proofs.lemmas.List.{drop_at, take_at}
+use Rattle.std.proofs.lemmas.List.{append_cancel_right, drop_at, take_at}
 use Rattle.lexical_write_integer.specs.Order.{IsEarlier}
 use Rattle.lexical_write_integer.specs.Sequence.{IsExactly, Then}
 use Rattle.lexical_write_integer.proofs.OfTexts.Rows.{split}
@@ -29,6 +29,16 @@ same_parts text s t long =
       record { text = s.first; is = s.is_first; also = rw same.0 t.is_first },
       record { text = s.second; is = s.is_second; also = rw same.1 t.is_second },
     )
+
+-- if one text is two texts in a row in two ways, with the same bytes after them, the kinds before these bytes have a text
+-- in common
+pub same_before : {A B : List ℕ → Type 0} (end text : List ℕ) (s : Then A (IsExactly end) text)
+    → Then B (IsExactly end) text
+    → HaveInCommon A B
+same_before end text s t =
+    let same = append_cancel_right s.first t.first end
+    (ap (λ e. s.first ++ e) (sym s.is_second) ∙ sym s.whole ∙ t.whole ∙ ap (λ e. t.first ++ e) t.is_second) in
+    record { text = s.first; is = s.is_first; also = rw same t.is_first }
 
 -- ---- texts that are split at their first separator p
 

@@ -1,5 +1,5 @@
 -- Numbers times powers of ten in scientific notation: equal texts are of equal numbers.
-use Rattle.std.proofs.Common.{◌≡◌, ◌≢◌, ℕ, zero, suc, ◌+◌, ◌*◌, ◌/◌, ◌^◌, ◌<◌, ◌≤◌, List, [], ◌∷◌, ◌++◌, map}
+use Rattle.std.proofs.Common.{◌≡◌, ◌≢◌, ℕ, zero, suc, ◌+◌, ◌*◌, ◌/◌, ◌^◌, ◌<◌, ◌≤◌, List, [], ◌∷◌, ◌++◌}
 use Rattle.std.proofs.Common.{append_assoc}
 use Rattle.std.proofs.Common.{refl, sym, ap, ◌∙◌, ℤ, pos, negsuc, false, arith}
 use Rattle.std.specs.Prelude.{◌+ℤ◌, ◌*ℤ◌, unsigned_abs}
@@ -8,7 +8,6 @@ use Rattle.std.proofs.Math.IntN.{negsuc-*ℤ-pos, neg_ℤ, pos-*ℤ-pos}
 use Rattle.std.proofs.Math.Nat.{mul-div_cancel, mul-le-mul_right, one-le-pow}
 use Rattle.std.proofs.lemmas.Bool.Decides.{eqb_tells}
 use Rattle.std.proofs.lemmas.Int.{ints}
-use Rattle.std.proofs.lemmas.List.Elements.{All-append}
 use Rattle.std.proofs.lemmas.Nat.{pow-add}
 use Rattle.lexical_num.specs.Digit.{digit_char}
 use Rattle.lexical_num.specs.Format.{standard}
@@ -18,13 +17,13 @@ use Rattle.lexical_write_integer.specs.Sequence.{IsExactly, Then}
 use Rattle.lexical_write_integer.proofs.OfDigits.Count.DigitCounts.{digit_count-pos, digit_count-split}
 use Rattle.lexical_write_integer.proofs.OfTexts.Orders.{equal_from_IsText}
 use Rattle.lexical_write_integer.proofs.OfTexts.ReadTexts.{are_read}
-use Rattle.lexical_write_integer.proofs.OfTexts.Separators.{sign_is_none}
-use Rattle.lexical_parts.specs.Fixed.{IsFixed, IsFraction}
+use Rattle.lexical_parts.specs.Fixed.{IsFixed}
 use Rattle.lexical_write_integer.specs.InCommon.{HaveInCommon}
 use Rattle.lexical_parts.specs.Scaled.{AreEqualScaled}
 use Rattle.lexical_parts.specs.Scientific.{IsScientific, exponent_of_first}
 use Rattle.lexical_parts.specs.Sequence.{IsDecimal}
-use Rattle.lexical_parts.proofs.OfNumbers.FixedReads.{digits_lack, fixed_read}
+use Rattle.lexical_parts.proofs.OfNumbers.FixedBytes.{fixed_has_no}
+use Rattle.lexical_parts.proofs.OfNumbers.FixedReads.{fixed_read}
 use Rattle.lexical_parts.proofs.OfLayout.Splits.{same_split}
 
 -- ---- no `e` before the exponent
@@ -33,32 +32,9 @@ use Rattle.lexical_parts.proofs.OfLayout.Splits.{same_split}
 digit_is_no_e : (d : ℕ) → d < 10 → digit_char d ≢ 101
 digit_is_no_e d small same = grind arith
 
--- a text of decimal digits has no `e`
-digits_have_no_e : (ds text : List ℕ) → All (λ d. d < 10) ds → text ≡ map digit_char ds → All (λ b. b ≢ 101) text
-digits_have_no_e ds text = digits_lack 101 ds text digit_is_no_e
-
--- if neither of two texts in a row has an `e`, the whole text has none
-then_no_e : {A B : List ℕ → Type 0} {text : List ℕ} (is : Then A B text) → All (λ b. b ≢ 101) is.first
-    → All (λ b. b ≢ 101) is.second
-    → All (λ b. b ≢ 101) text
-then_no_e is first second = rw is.whole (All-append (λ b. b ≢ 101) is.first is.second first second)
-
--- the text of a fraction, which is a point and decimals or no bytes at all, has no `e`
-fraction_has_no_e : (d n : ℕ) (text : List ℕ) → IsFraction d n text → All (λ b. b ≢ 101) text
-fraction_has_no_e zero n text is = rw is (λ k d l. absurd (omega (arith, l)))
-fraction_has_no_e (suc d) n text is =
-    let rest = is.is_second in
-    then_no_e is (rw is.is_first (λ k d l. grind arith))
-    (digits_have_no_e rest.digits is.second rest.block.below_radix rest.characters)
-
 -- the text of a number of units, with its sign and its decimal point, has no `e`
 fixed_has_no_e : (d : ℕ) (x : ℤ) (text : List ℕ) → IsFixed d x text → All (λ b. b ≢ 101) text
-fixed_has_no_e d x text is =
-    let units = is.is_second in
-    let whole = units.is_first in
-    then_no_e is (rw is.is_first (sign_is_none 101 x false (λ e. grind arith) (λ e. grind arith)))
-    (then_no_e units (digits_have_no_e whole.digits units.first whole.numeral.numeral.below_radix whole.characters)
-    (fraction_has_no_e d _ units.second units.is_second))
+fixed_has_no_e = fixed_has_no 101 digit_is_no_e (λ e. grind arith) (λ e. grind arith)
 
 -- two numbers of units, with c and with d decimals, are equal as integers if they have a text in common
 equal_fixed : (c d : ℕ) (x y : ℤ) → HaveInCommon (IsFixed c x) (IsFixed d y) → x ≡ y

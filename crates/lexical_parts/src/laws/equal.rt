@@ -46,6 +46,13 @@ pub fn same_split<A: Part, B: Part, P: Part, Q: Part>(a: A, b: B, separator: u8,
         → HaveInCommon (P.is_text p) (Q.is_text q) }
 {}
 
+/// A law: if a text is `a` and then `end`, and also `b` and then `end`, then `a` and `b` have a text in common. The end
+/// is, for example, a unit or a newline.
+pub fn same_before<A: Part, B: Part>(a: A, b: B, end: &str)
+    ensures { (text : List ℕ) → (A.is_text a then IsExactly end.now) text → (B.is_text b then IsExactly end.now) text
+        → HaveInCommon (A.is_text a) (B.is_text b) }
+{}
+
 /// A law: if `a` is below `b`, a text that begins with `a` in `width` digits is earlier, in the order of bytes, than a
 /// text that begins with `b` in `width` digits, whatever follows. Both numbers have leading zeros, in one radix.
 pub fn padded_decides<P: Part, Q: Part>(radix: u32, width: usize, a: u64, b: u64, p: P, q: Q)
@@ -109,6 +116,15 @@ pub fn equal_fixed<T: LexicalInteger>(a: T, b: T, decimals: usize)
 {
     fixed_read_back(a, decimals);
     fixed_read_back(b, decimals);
+}
+
+/// A law: if two `Fixed` with the same number of decimals, and the same bytes after them, such as a unit, have a text
+/// in common, their amounts are equal.
+pub fn equal_amounts<T: LexicalInteger>(a: T, b: T, decimals: usize, end: &str)
+    ensures { (text : List ℕ) → (IsFixed decimals (T.number a) then IsExactly end.now) text
+        → (IsFixed decimals (T.number b) then IsExactly end.now) text → a ≡ b }
+{
+    equal_fixed(a, b, decimals);
 }
 
 /// A law: if two numbers have a text of a `ZeroPadded` of one width in common, the numbers are equal. The format has

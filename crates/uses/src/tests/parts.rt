@@ -2,6 +2,7 @@
 
 use super::{check, check_buffer, check_part, check_room, check_str};
 use crate::amount::write_amount;
+use crate::price::write_price;
 use crate::table_row::write_table_row;
 use crate::uuid::uuid;
 use lexical_parts::{
@@ -101,6 +102,15 @@ fn amounts_in_cents(rt: HostRuntime) {
     check_buffer(&rt, &buffer, count, b"1,234.50");
     let count = write_amount(i64::MIN, &mut buffer);
     check_buffer(&rt, &buffer, count, b"-92,233,720,368,547,758.08");
+}
+
+#[test]
+fn prices_with_a_unit(rt: HostRuntime) {
+    let mut buffer = [7; 15];
+    let count = write_price(5, &mut buffer);
+    check_buffer(&rt, &buffer, count, b"0.05 EUR");
+    let count = write_price(u32::MAX, &mut buffer);
+    check_buffer(&rt, &buffer, count, b"42949672.95 EUR");
 }
 
 #[test]
