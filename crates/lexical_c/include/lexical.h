@@ -61,7 +61,7 @@
  * 0, the buffer was too short. No call changes errno.
  *
  * Threads and signals. The functions have no state and allocate nothing. So you can call
- * them in any thread, with a buffer of its own, and in any signal handler.
+ * them in any thread, if each thread uses its own buffer, and in any signal handler.
  *
  * Proof. The sources of the library were proved by a prover that is not public. The
  * compiled library and this header are tested, and not proved.
@@ -207,7 +207,7 @@ size_t lexical_decimal_i64(int64_t value, char *buffer, size_t size) LEXICAL_NOE
  *
  * From C++14 on, each field after the radix has the default value 0, so the struct has no
  * trivial default constructor. To clear a format write `format = {}`, because g++ warns of
- * memset. A variable of a union that has a format as a member needs an initializer.
+ * memset. Initialize each variable of a union that has a format as a member.
  */
 struct lexical_format {
     /* From 2 to 36. */
