@@ -1,6 +1,10 @@
 //! What is written, and where to: each loop is a function of its own, so neither it nor the call in it is shared.
 
-use cojimuran::{Hex, NumberFormat, NumberFormatBuilder, Options, Part, ToLexical, ToLexicalWithOptions};
+use cojimuran::{
+    Append, Digits, Hex, Lower, NumberFormat, NumberFormatBuilder, Options, Part, Show, Shown, ToLexical,
+    ToLexicalWithOptions,
+};
+use std::fmt;
 use std::hint::black_box;
 use std::io::Write;
 
@@ -13,12 +17,19 @@ pub trait Case {
     /// Writes the text to a buffer, and returns its length.
     fn write(number: u64, buffer: &mut [u8]) -> usize;
 
+    /// The part with that text.
+    fn part(number: u64) -> impl Show;
+
     /// Writes the text with the standard library. It has none in radix 36.
     fn write_by_std(number: u64, output: impl Write) -> Option<()>;
+
+    /// Appends the text to a `String` with the standard library.
+    fn append_by_std(number: u64, text: &mut String) -> Option<()>;
 }
 
 pub struct Decimal;
 pub struct Hexadecimal;
+pub struct Lowercase;
 pub struct Radix36;
 pub struct Line;
 
@@ -35,8 +46,18 @@ impl Case for Decimal {
     }
 
     #[inline(always)]
+    fn part(number: u64) -> impl Show {
+        number
+    }
+
+    #[inline(always)]
     fn write_by_std(number: u64, mut output: impl Write) -> Option<()> {
         write!(output, "{number}").ok()
+    }
+
+    #[inline(always)]
+    fn append_by_std(number: u64, text: &mut String) -> Option<()> {
+        fmt::Write::write_fmt(text, format_args!("{number}")).ok()
     }
 }
 
@@ -50,8 +71,43 @@ impl Case for Hexadecimal {
     }
 
     #[inline(always)]
+    fn part(number: u64) -> impl Show {
+        Hex(number)
+    }
+
+    #[inline(always)]
     fn write_by_std(number: u64, mut output: impl Write) -> Option<()> {
         write!(output, "{number:X}").ok()
+    }
+
+    #[inline(always)]
+    fn append_by_std(number: u64, text: &mut String) -> Option<()> {
+        fmt::Write::write_fmt(text, format_args!("{number:X}")).ok()
+    }
+}
+
+impl Case for Lowercase {
+    const NAME: &str = "radix 16, lowercase";
+    const ROOM: usize = 16;
+
+    #[inline(always)]
+    fn write(number: u64, buffer: &mut [u8]) -> usize {
+        Lower(Hex(number)).write_to(buffer)
+    }
+
+    #[inline(always)]
+    fn part(number: u64) -> impl Show {
+        Lower(Hex(number))
+    }
+
+    #[inline(always)]
+    fn write_by_std(number: u64, mut output: impl Write) -> Option<()> {
+        write!(output, "{number:x}").ok()
+    }
+
+    #[inline(always)]
+    fn append_by_std(number: u64, text: &mut String) -> Option<()> {
+        fmt::Write::write_fmt(text, format_args!("{number:x}")).ok()
     }
 }
 
@@ -64,7 +120,16 @@ impl Case for Radix36 {
         number.to_lexical_with_options(buffer, &RADIX_36, &Options::new()).len()
     }
 
+    #[inline(always)]
+    fn part(number: u64) -> impl Show {
+        Digits(36, number)
+    }
+
     fn write_by_std(_: u64, _: impl Write) -> Option<()> {
+        None
+    }
+
+    fn append_by_std(_: u64, _: &mut String) -> Option<()> {
         None
     }
 }
@@ -79,8 +144,18 @@ impl Case for Line {
     }
 
     #[inline(always)]
+    fn part(number: u64) -> impl Show {
+        ("id=", number, " flags=0x", Hex(number as u16), "\n")
+    }
+
+    #[inline(always)]
     fn write_by_std(number: u64, mut output: impl Write) -> Option<()> {
         writeln!(output, "id={number} flags=0x{:X}", number as u16).ok()
+    }
+
+    #[inline(always)]
+    fn append_by_std(number: u64, text: &mut String) -> Option<()> {
+        fmt::Write::write_fmt(text, format_args!("id={number} flags=0x{:X}\n", number as u16)).ok()
     }
 }
 
@@ -92,7 +167,8 @@ pub fn is_same<C: Case>(number: u64) -> bool {
 }
 
 /// Where the texts go.
-pub const TARGETS: [&str; 3] = ["an array", "a slice", "a `Vec`"];
+pub const TARGETS: [&str; 6] =
+    ["an array", "a slice", "a `Vec`", "`append_to` a `String`", "`write_pieces` to it", "`{}` to it"];
 
 /// The length of the arrays and slices.
 const SIZE: usize = 64;
@@ -102,7 +178,10 @@ pub fn write_all<C: Case>(target: usize, numbers: &[u64]) -> usize {
     match target {
         0 => to_array::<C>(numbers),
         1 => to_slice::<C>(numbers, black_box(&mut [0; SIZE])),
-        _ => to_vector::<C>(numbers),
+        2 => to_vector::<C>(numbers),
+        3 => append_all::<C>(numbers),
+        4 => write_all_pieces::<C>(numbers),
+        _ => format_all::<C>(numbers),
     }
 }
 
@@ -111,7 +190,8 @@ pub fn write_all_by_std<C: Case>(target: usize, numbers: &[u64]) -> usize {
     match target {
         0 => to_array_by_std::<C>(numbers),
         1 => to_slice_by_std::<C>(numbers, black_box(&mut [0; SIZE])),
-        _ => to_vector_by_std::<C>(numbers),
+        2 => to_vector_by_std::<C>(numbers),
+        _ => append_all_by_std::<C>(numbers),
     }
 }
 
@@ -180,4 +260,40 @@ fn to_vector_by_std<C: Case>(numbers: &[u64]) -> usize {
         C::write_by_std(black_box(*number), &mut bytes);
     }
     black_box(&bytes).len()
+}
+
+#[inline(never)]
+fn append_all<C: Case>(numbers: &[u64]) -> usize {
+    let mut text = String::new();
+    for number in numbers {
+        C::part(black_box(*number)).append_to(&mut text);
+    }
+    black_box(&text).len()
+}
+
+#[inline(never)]
+fn write_all_pieces<C: Case>(numbers: &[u64]) -> usize {
+    let mut text = String::new();
+    for number in numbers {
+        let _ = C::part(black_box(*number)).write_pieces(&mut text);
+    }
+    black_box(&text).len()
+}
+
+#[inline(never)]
+fn format_all<C: Case>(numbers: &[u64]) -> usize {
+    let mut text = String::new();
+    for number in numbers {
+        let _ = fmt::Write::write_fmt(&mut text, format_args!("{}", Shown(C::part(black_box(*number)))));
+    }
+    black_box(&text).len()
+}
+
+#[inline(never)]
+fn append_all_by_std<C: Case>(numbers: &[u64]) -> usize {
+    let mut text = String::new();
+    for number in numbers {
+        C::append_by_std(black_box(*number), &mut text);
+    }
+    black_box(&text).len()
 }

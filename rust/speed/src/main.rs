@@ -4,7 +4,7 @@
 
 mod cases;
 
-use cases::{Case, Decimal, Hexadecimal, Line, Radix36, TARGETS, is_same, write_all, write_all_by_std};
+use cases::{Case, Decimal, Hexadecimal, Line, Lowercase, Radix36, TARGETS, is_same, write_all, write_all_by_std};
 use std::hint::black_box;
 use std::io::IsTerminal;
 use std::process::{Command, ExitCode};
@@ -48,8 +48,8 @@ fn row<C: Case>() -> Row {
     Row { name: C::NAME, is_same: is_same::<C>, ours: write_all::<C>, std: has_std.then_some(write_all_by_std::<C>) }
 }
 
-fn rows() -> [Row; 4] {
-    [row::<Decimal>(), row::<Hexadecimal>(), row::<Radix36>(), row::<Line>()]
+fn rows() -> [Row; 5] {
+    [row::<Decimal>(), row::<Hexadecimal>(), row::<Lowercase>(), row::<Radix36>(), row::<Line>()]
 }
 
 /// The best of some times, and how much the median is above it, in nanoseconds of a number.
