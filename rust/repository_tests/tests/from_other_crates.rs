@@ -5,8 +5,8 @@
 mod number_of_128_bits;
 
 use cojimuran::{
-    BUFFER_SIZE, Buffer, Digits, Displayed, Fixed, Formatted, FormattedSize, Hex, Lower, NumberFormat,
-    NumberFormatBuilder, Options, Padded, Part, Right, Show, Shown, ToLexical, ToLexicalWithOptions, ZeroPadded,
+    BUFFER_SIZE, Binary, Buffer, Digits, Displayed, Fixed, Formatted, FormattedSize, Hex, Lower, NumberFormat,
+    NumberFormatBuilder, Options, Padded, Part, Plus, Right, Show, Shown, ToLexical, ToLexicalWithOptions, ZeroPadded,
 };
 use number_of_128_bits::{format_i128, format_u128};
 use std::io::Write;
@@ -73,6 +73,11 @@ fn from_format() {
     assert_eq!(Hex(number).to_str(&mut buffer), format!("{number:X}"));
     assert_eq!(Lower(Hex(number)).to_str(&mut buffer), format!("{number:x}"));
     assert_eq!(("0x", Lower(Hex(number))).to_str(&mut buffer), format!("{number:#x}"));
+    assert_eq!(Binary(number).to_str(&mut buffer), format!("{number:b}"));
+    assert_eq!(Digits(8, number).to_str(&mut buffer), format!("{number:o}"));
+    for number in [0, 7, -7] {
+        assert_eq!(Plus(number).to_str(&mut buffer), format!("{number:+}"));
+    }
     assert_eq!(Fixed(cents, 2).to_str(&mut buffer), format!("{}.{:02}", cents / 100, cents % 100));
     let number = -1i32;
     assert_eq!(Hex(number as u32).to_str(&mut buffer), format!("{number:X}"));

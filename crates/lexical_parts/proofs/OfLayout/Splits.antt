@@ -30,8 +30,8 @@ same_parts text s t long =
       record { text = s.second; is = s.is_second; also = rw same.1 t.is_second },
     )
 
--- if one text is two texts in a row in two ways, with the same bytes after them, the kinds before these bytes have a text
--- in common
+-- if one text is two texts in a row in two ways, with the same bytes after them, the kinds before these bytes have a
+-- text in common
 pub same_before : {A B : List ℕ → Type 0} (end text : List ℕ) (s : Then A (IsExactly end) text)
     → Then B (IsExactly end) text
     → HaveInCommon A B

@@ -82,8 +82,8 @@ impl<P: Show> Show for Option<P> {
 }
 
 /// A part that may be absent, and the part that is written in its place: `OrElse(Some(5u8), "n/a")` writes `5`, and
-/// `OrElse(None::<u8>, "n/a")` writes `n/a`. Both must be valid, although only `{}` checks the one that is not written.
-/// Its room is the larger of the two.
+/// `OrElse(None::<u8>, "n/a")` writes `n/a`. Both must be valid, although most calls do not check the one that is not
+/// written. Its room is the larger of the two.
 ///
 /// ```
 /// use lexical_parts::{OrElse, Part};
