@@ -71,7 +71,9 @@ fn is_for_proofs(statement: &[Token], laws: &Names) -> bool {
     let is_method_of_counter = name > 1 && statement[name - 1] == "." && statement[name - 2].is_in(&COUNTERS);
     let has_effect = |at: usize| {
         let is_other_call = at != name && statement[at].is_word() && statement[at + 1] == "(";
-        statement[at].is_in(&EFFECTS) || is_other_call && !statement[at].is_in(&WITHOUT_EFFECT)
+        let named = statement[at + 1..].iter().find(|token| !token.is_in(&["self", "."]));
+        let changes = statement[at] == "mut" && !named.is_some_and(|token| token.is_in(&COUNTERS));
+        statement[at].is_in(&EFFECTS) || is_other_call && !statement[at].is_in(&WITHOUT_EFFECT) || changes
     };
     (is_method_of_counter || laws.contains(&statement[name].text)) && !(0..statement.len()).any(has_effect)
 }

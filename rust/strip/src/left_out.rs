@@ -3,7 +3,8 @@
 
 use crate::counters::COUNTERS;
 use crate::items::{
-    function, functions, remove, remove_and_keep_comment, remove_element, start, start_with_attributes,
+    Function, elements, function, functions, remove, remove_and_keep_comment, remove_element, start,
+    start_with_attributes,
 };
 use crate::repository::File;
 use crate::tokens::{Token, closing, find, words};
@@ -30,6 +31,21 @@ pub(crate) fn without_items(tokens: &mut Vec<Token>, modules: &[&str], laws: &Na
         } else {
             at += 1;
         }
+    }
+}
+
+/// Returns what a function does that no law does, or `None`.
+pub(crate) fn effect(tokens: &[Token], function: &Function) -> Option<&'static str> {
+    let changes = |element: &Range<usize>| words(&tokens[element.clone()]).contains("& mut ");
+    let is_counter = |element: &Range<usize>| tokens[element.clone()].iter().any(|token| token.is_in(&COUNTERS));
+    if !function.result(tokens).is_empty() {
+        Some("returns something")
+    } else if words(&tokens[function.inside(tokens)]).contains("prove !") {
+        Some("asserts something")
+    } else if elements(tokens, function.parameters).iter().any(|each| changes(each) && !is_counter(each)) {
+        Some("changes something")
+    } else {
+        None
     }
 }
 
@@ -75,8 +91,8 @@ pub(crate) fn without_imports(tokens: &mut Vec<Token>, file: &File, laws: &Names
     }
 }
 
-/// Leaves out names of the import that begins at an index, and each that is there a second time: without its ending,
-/// a name with `_counted` may be another one.
+/// Leaves out names of the import that begins at an index, and each that is there a second time: `use a::{b, b_counted}`
+/// has become `use a::{b, b}`.
 fn without_names(tokens: &mut Vec<Token>, at: usize, is_left_out: impl Fn(&str) -> bool) {
     for name in (at..find(tokens, at, &[";"])).rev() {
         let text = &tokens[name].text;
@@ -113,8 +129,14 @@ fn words_outside_imports(tokens: &[Token]) -> Names {
     names
 }
 
-/// Returns an error if code has what only Rattle has, such as a ghost or a call of a law.
+/// Returns an error if code has what only Rattle has, such as a ghost or a call of a law, or a function that does
+/// nothing, because that is a law.
 pub(crate) fn check_rust(tokens: &[Token], laws: &Names) -> Result<(), String> {
+    let is_empty = |each: &Function| tokens[each.body] == "{" && each.inside(tokens).is_empty();
+    if let Some(law) = functions(tokens).iter().find(|each| is_empty(each) && effect(tokens, each).is_none()) {
+        let line = tokens[law.at].line;
+        return Err(format!("{line}: {} does nothing: is it a law that `sources.rs` must list?", law.name(tokens)));
+    }
     let is_literal = |text: &str| ["\"", "'", "b\"", "b'", "//"].iter().any(|start| text.starts_with(start));
     let is_of_rattle = |pair: &&[Token]| {
         let (token, is_call) = (&pair[0], pair[1] == "(");

@@ -1,8 +1,8 @@
 //! Reads the crates of the repository, and checks that each rule and each name of a list is for something in them.
 
 use crate::files::{files_of, read};
-use crate::items::declared_names;
-use crate::left_out::Names;
+use crate::items::{declared_names, functions};
+use crate::left_out::{Names, effect};
 use crate::rules::{Rule, lex_and_apply};
 use crate::sources::Source;
 use crate::tokens::Token;
@@ -45,6 +45,18 @@ impl File {
         words.chain([self.name.clone(), self.name.trim_end_matches(".rt").to_owned()])
     }
 
+    /// Returns an error if a function that is listed as a law does more than a law, because that would be lost.
+    fn check_laws(&self) -> Result<(), String> {
+        for function in functions(&self.tokens) {
+            let (name, line) = (function.name(&self.tokens), self.tokens[function.at].line);
+            let effect = effect(&self.tokens, &function).filter(|_| self.source.is_law(name, &self.name));
+            if let Some(effect) = effect {
+                return Err(format!("{}:{line}: {name} is listed as a law, and {effect}", self.path().display()));
+            }
+        }
+        Ok(())
+    }
+
     /// Returns its path in the repository.
     pub fn path(&self) -> PathBuf {
         self.source.folder_of_crate().join(&self.name)
@@ -59,9 +71,9 @@ impl Repository {
             let mut known = Names::new();
             for path in files_of(top, &source.folder_of_crate(), "rt")? {
                 let file = File::read(top, source, &path, &mut rules)?;
-                repository
-                    .laws
-                    .extend(declared_names(&file.tokens).filter(|law| source.is_law(law, &file.name)).cloned());
+                file.check_laws()?;
+                let is_law = |name: &&String| source.is_law(name, &file.name);
+                repository.laws.extend(declared_names(&file.tokens).filter(is_law).cloned());
                 known.extend(file.names_for_lists());
                 repository.files.push(file);
             }

@@ -2,7 +2,7 @@
 
 use crate::items::remove_and_keep_comment;
 use crate::replacements::RULES;
-use crate::tokens::{Token, lex, print};
+use crate::tokens::{Token, check_brackets, lex, print};
 
 /// Tokens of a source, and those that are written there. A rule of a table that matches nothing is an error.
 pub(crate) struct Rule {
@@ -58,7 +58,7 @@ impl Rule {
             return remove_and_keep_comment(tokens, at..end);
         };
         last.after.clone_from(&tokens[end - 1].after);
-        // No program lays out the examples in documentation.
+        // rustfmt does not lay out the examples in documentation, where `assert!(rt; a)` becomes `assert!(a)`.
         if *last == "(" && tokens[end].before == " " {
             tokens[end].before.clear();
         }
@@ -71,6 +71,7 @@ impl Rule {
 /// path as `CRATE/FILE`.
 pub(crate) fn lex_and_apply(text: &str, place: [&str; 3], rules: &mut [Rule]) -> Result<Vec<Token>, String> {
     let mut tokens = lex(text)?;
+    check_brackets(&tokens)?;
     for rule in rules.iter_mut().filter(|rule| rule.of.is_empty() || place.contains(&rule.of)) {
         rule.apply(&mut tokens);
     }

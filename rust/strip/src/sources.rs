@@ -219,8 +219,8 @@ pub(crate) const SOURCES: &[Source] = &[
         module: "uses",
         left_out: "exact_conditions/clones other_laws recorded_turns",
         laws: "
-            same_address same_amount same_price same_first_price same_weight same_path same_digest same_float same_counter same_link same_user different_codes
-            same_row sorts_by_time same_timed",
+            same_address same_amount same_price same_first_price same_weight same_path same_digest same_float
+            same_counter same_link same_user different_codes same_row sorts_by_time same_timed",
         ..TESTS
     },
     Source { name: "tests", ..TESTS },

@@ -45,10 +45,10 @@ fn body_becomes(body: &str, expected: &str) {
 #[test]
 fn a_reworded_comment_changes_only_the_comment() {
     for comment in ["// It is cold.", "// Reworded."] {
-        let kept = made(&format!("{comment}\n#[cold]\nfn other() {{}}")).unwrap();
-        assert_eq!(kept, format!("{comment}\n#[cold]\n#[inline]\nfn other() {{}}\n"));
-        let left_out = made(&format!("{comment}\n#[cold]\nfn write_more_than_ten() {{}}")).unwrap();
-        assert_eq!(left_out, format!("{comment}\n#[inline]\nfn write_more_than_ten() {{}}\n"));
+        let kept = made(&format!("{comment}\n#[cold]\nfn other() {{ a }}")).unwrap();
+        assert_eq!(kept, format!("{comment}\n#[cold]\n#[inline]\nfn other() {{ a }}\n"));
+        let left_out = made(&format!("{comment}\n#[cold]\nfn write_more_than_ten() {{ a }}")).unwrap();
+        assert_eq!(left_out, format!("{comment}\n#[inline]\nfn write_more_than_ten() {{ a }}\n"));
     }
 }
 
@@ -63,8 +63,8 @@ fn a_comment_may_have_any_word() {
 fn a_comment_goes_with_what_it_stands_at() {
     let made = |text| made(text).unwrap();
     assert_eq!(made("// Of all.\n\n// Of it.\nghost use a;\nstruct B; // b"), "// Of all.\n\nstruct B; // b\n");
-    assert_eq!(made("// Of f.\n#[tactic(auto)]\nfn f() {}"), "// Of f.\n#[inline]\nfn f() {}\n");
-    assert_eq!(made("// Of f.\nfinal fn f() {}"), "// Of f.\n#[inline]\nfn f() {}\n");
+    assert_eq!(made("// Of f.\n#[tactic(auto)]\nfn f() { a }"), "// Of f.\n#[inline]\nfn f() { a }\n");
+    assert_eq!(made("// Of f.\nfinal fn f() { a }"), "// Of f.\n#[inline]\nfn f() { a }\n");
 }
 
 #[test]
@@ -72,7 +72,7 @@ fn ghost_items_clauses_and_tactics_are_left_out() {
     becomes("fn f(a: u8) requires { b } ensures* c { d } { a } ghost e: { g };", "#[inline] fn f(a: u8) { a }");
     becomes("struct S { a: u8, pub(crate) ghost n: { ℕ }, ghost m: { x' } }", "struct S { a: u8, }");
     becomes("trait T { fn f() ensures { b }; ghost a = { b }; }", "trait T { fn f(); }");
-    becomes("#![tactic(auto)] #[tactic(a, using(b))] fn f() {}", "#[inline] fn f() {}");
+    becomes("#![tactic(auto)] #[tactic(a, using(b))] fn f() { a }", "#[inline] fn f() { a }");
     becomes("impl<T> Model for S<T> { ghost a = { b }; } impl S {}", "impl S {}");
 }
 
@@ -81,6 +81,25 @@ fn what_is_left_of_rattle_is_refused() {
     is_refused("\nfn f() { λ }", "2: only Rattle has `λ`");
     is_refused("fn f() { let a: Option<Turns>; }", "1: only Rattle has `Turns`");
     is_refused("fn f() {\nif c { turns.tick(b) } }", "2: only Rattle has `turns`");
+    for word in ["tactic", "prove", "Model", "Drop"] {
+        is_refused(&format!("struct S<{word}>;"), &format!("1: only Rattle has `{word}`"));
+    }
+    is_refused("fn f(a: u8) { in_range(a); }", "1: f does nothing: is it a law that `sources.rs` must list?");
+    is_refused("fn f() { (a] }", "1: nothing opens this `]`");
+    is_refused("fn f() {\n(", "2: nothing closes this `(`");
+}
+
+/// Otherwise what it does would be lost.
+#[test]
+fn a_law_that_does_more_is_refused() {
+    for (law, effect) in [
+        ("fn in_range() -> u8 { 1 }", "returns something"),
+        ("fn in_range() { prove!(a) }", "asserts something"),
+        ("fn in_range(a: &mut u8) {}", "changes something"),
+    ] {
+        let tokens = lex(law).unwrap();
+        assert_eq!(crate::left_out::effect(&tokens, &crate::items::functions(&tokens)[0]), Some(effect));
+    }
 }
 
 #[test]
@@ -104,6 +123,10 @@ fn a_law_in_a_statement_that_does_more_is_refused() {
         "next().in_range();",
         "match a { b => {} }.in_range();",
         "if a { in_range(b) }",
+        "in_range(a?);",
+        "in_range(a!());",
+        "in_range(&mut a);",
+        "return in_range(a);",
     ] {
         is_refused(&with_body(&format!("{statement} b")), "1: only Rattle has `in_range`");
     }
@@ -118,6 +141,8 @@ fn counters_are_left_out() {
     body_becomes("turns.tick(1); self.trace.note(&a); b", "b");
     body_becomes("let a = b / 2; if a > 0 { turns.tick(a); } a", "b / 2");
     body_becomes("g(1, turns, g(1, &mut Turns::new(), 3))", "g(1, g(1, 3))");
+    body_becomes("if c() { turns.tick(b); } a", "if c() { } a");
+    body_becomes("if c { turns.tick(b); } else { d } a", "if c { } else { d } a");
 }
 
 #[test]
@@ -141,7 +166,7 @@ fn two_functions_become_one() {
 fn rules_write_tokens_otherwise() {
     becomes("fn f() { prove!(a); b }", "#[inline] fn f() { assert!(a); b }");
     becomes("#[derive(Clone, Drop)] struct A; #[derive(Drop)] struct B;", "#[derive(Clone)] struct A; struct B;");
-    becomes("fn fmt<W: fmt::Write>(f: fmt::Formatter<W>) {}", "#[inline] fn fmt(f: fmt::Formatter<'_>) {}");
+    becomes("fn fmt<W: fmt::Write>(f: fmt::Formatter<W>) { a }", "#[inline] fn fmt(f: fmt::Formatter<'_>) { a }");
     let paths = "use crate::num::A; use crate::write_integer::b::C; use core::d;";
     becomes("use lexical_num::A; use crate::b::C; use std::d;", paths);
 }

@@ -33,7 +33,7 @@ impl PartialEq<&str> for Token {
 }
 
 /// Returns the tokens of a text, or an error that begins with the line. The last token is empty, and has what is after
-/// the others. The brackets of a source match, because the compiler of Rattle has read it.
+/// the others.
 pub(crate) fn lex(text: &str) -> Result<Vec<Token>, String> {
     let (mut tokens, mut rest, mut line): (Vec<Token>, _, _) = (Vec::new(), text, 1);
     loop {
@@ -123,6 +123,19 @@ fn length_while(text: &str, is_part: impl Fn(char) -> bool) -> usize {
 
 fn character_length(text: &str) -> usize {
     text.chars().next().map_or(0, char::len_utf8)
+}
+
+/// Returns an error that begins with the line if a bracket matches no other one.
+pub(crate) fn check_brackets(tokens: &[Token]) -> Result<(), String> {
+    let mut open: Vec<&Token> = Vec::new();
+    for token in tokens.iter().filter(|token| depth_change(token) != 0) {
+        match (open.last().map(|last| &*last.text), &*token.text) {
+            (Some("("), ")") | (Some("["), "]") | (Some("{"), "}") => drop(open.pop()),
+            (_, ")" | "]" | "}") => return Err(format!("{}: nothing opens this `{}`", token.line, token.text)),
+            _ => open.push(token),
+        }
+    }
+    open.last().map_or(Ok(()), |last| Err(format!("{}: nothing closes this `{}`", last.line, last.text)))
 }
 
 /// Returns the text of tokens, with their comments.
