@@ -1,6 +1,6 @@
 /*
  * Calls the library in 24 cells, which are a type and a format each, with numbers of every length, in the order of the
- * limits in `instructions`. A cell is a call of a function cell_.., so that callgrind counts its instructions.
+ * limits in `instruction_limits`. A cell is a call of a function cell_.., so that callgrind counts its instructions.
  */
 #include "types.h"
 
