@@ -39,16 +39,14 @@ calls() {
   esac
 }
 
-# reports WORDS COMPILER OLD NEW FLAG..: whether the compiler says these words, or nothing if there are none, of each
-# call that has OLD, with NEW in its place. Calls are not inlined, so an attribute is that of the function. For example,
-# of `reports . 'cc -std=c11' '(1' '((char)1'` the calls in calls.c are
+# make_calls COMPILER OLD NEW: writes calls.c, which has each call that has OLD, with NEW in its place, and returns
+# whether there is one. For example, of `make_calls 'cc -std=c11' '(1' '((char)1'` the calls are
 #
 #     used(lexical_decimal((char)1, buffer, 4));
 #     used(lexical_write((char)1, format, buffer, 4));
 #     used(lexical_length((char)1, format));
-reports() {
-  words=$1 compiler=$2 old=$3 new=$4; shift 4
-  calls "${compiler##*=}" | sed -n "s/lexical.*[)]/used(&)/; s/$old/$new/p" > "$work/calls"
+make_calls() {
+  calls "${1##*=}" | sed -n "s/lexical.*[)]/used(&)/; s/$2/$3/p" > "$work/calls"
   cat > "$work/calls.c" <<END
 #include "lexical.h"
 void used(size_t count);
@@ -58,19 +56,38 @@ char buffer[4] = "123";
 $(sed 's/FORMAT/format/; s/LENGTH/4/' "$work/calls")
 }
 END
-  set -- $compiler $strict -Wno-error -O1 -fno-inline "$@" -I"$crate/include"
-  "$@" -c -o "$work/calls.o" "$work/calls.c" 2> "$work/said"
+  [ -s "$work/calls" ]
+}
+
+# compile_calls COMPILER FLAG..: compiles calls.c, and leaves in `said` what the compiler says. Calls are not inlined, so
+# an attribute is that of the function.
+compile_calls() {
+  $1 $strict -Wno-error -O1 -fno-inline $2 $3 $4 -I"$crate/include" \
+    -c -o "$work/calls.o" "$work/calls.c" 2> "$work/said"
   cat "$work/calls.c" "$work/said"
-  if [ -z "$words" ]; then [ -s "$work/calls" ] && [ ! -s "$work/said" ]; return; fi
-  sed -n "s/.*calls[.]c:\([0-9]*\):[0-9]*:.*\($words\).*/\1/p" "$work/said" | sort -u > "$work/lines"
-  [ -s "$work/calls" ] && [ "$(wc -l < "$work/calls")" -eq "$(wc -l < "$work/lines")" ]
+}
+
+# lines_with WORDS: how many lines of calls.c the compiler has said these words of.
+lines_with() {
+  sed -n "s/.*calls[.]c:\([0-9]*\):[0-9]*:.*\($1\).*/\1/p" "$work/said" | sort -u | wc -l
+}
+
+# says_nothing COMPILER OLD NEW FLAG..: whether the compiler says nothing of these calls.
+says_nothing() {
+  make_calls "$1" "$2" "$3" && compile_calls "$1" "${4-}" "${5-}" "${6-}" && [ ! -s "$work/said" ]
+}
+
+# reports WORDS COMPILER OLD NEW FLAG..: whether the compiler says these words of each of these calls.
+reports() {
+  make_calls "$2" "$3" "$4" && compile_calls "$2" "${5-}" "${6-}" "${7-}" &&
+    [ "$(lines_with "$1")" -eq "$(wc -l < "$work/calls")" ]
 }
 
 # check_refused COMPILER: valid calls are taken without a word. The functions that a type chooses refuse a char and a
 # bool, and in C++ other characters, and LEXICAL_RADIX refuses constants that are no radix. `true` is a bool in C23, but
 # not for clang 14.
 check_refused() {
-  expect "valid calls by $1" reports '' "$1" used used
+  expect "valid calls by $1" says_nothing "$1" used used
   case ${1##*=} in
     c89) types= ;;
     c++98) types='char bool wchar_t' ;;
