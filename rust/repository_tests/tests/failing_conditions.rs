@@ -16,23 +16,24 @@ use cojimuran::{
     write_field, write_sign, write_with_length,
 };
 use lexwrite::lines::join;
-use std::panic::{AssertUnwindSafe, catch_unwind};
+use std::panic::{AssertUnwindSafe, catch_unwind, resume_unwind};
 use std::path::Path;
-use std::sync::mpsc;
+use std::sync::mpsc::{self, RecvTimeoutError};
 use std::time::Duration;
 use std::{fs, thread};
 
-/// Runs the calls of a test in a thread, since a call whose check is lost may not return. Fails unless all of this ends
-/// well, within a second for each.
+/// Runs the calls of a test in a thread, since a call whose check is lost may not return. Fails as they do, or if they
+/// take more than a second each.
 fn check(name: &str, calls: u32, run: impl FnOnce() + Send + 'static) {
     let (sender, receiver) = mpsc::channel();
-    thread::spawn(move || {
+    let thread = thread::spawn(move || {
         run();
         sender.send(()).ok();
     });
-    receiver
-        .recv_timeout(Duration::from_secs(1) * calls)
-        .unwrap_or_else(|_| panic!("{name}: a call fails or does not return"));
+    match receiver.recv_timeout(Duration::from_secs(1) * calls) {
+        Err(RecvTimeoutError::Timeout) => panic!("{name}: a call does not return"),
+        _ => thread.join().unwrap_or_else(|failure| resume_unwind(failure)),
+    }
 }
 
 /// Calls with the middle of a buffer, of this length. No other byte changes.
@@ -121,7 +122,9 @@ fn short_buffers_of_each_function(called: &mut Vec<Panicking>) {
     }
 }
 
-/// Returns each function of the package whose documentation says when it panics, with each of these conditions.
+/// Returns each function of the package whose documentation says when it panics, with each of these conditions. For
+/// example, of `If the radix is not from 2 to 36, or if the buffer is [too short](crate::conditions).` above `fn radix`
+/// these are `radix` with `the radix is not from 2 to 36`, and `radix` with `the buffer is too short`.
 fn documented() -> Vec<(String, String)> {
     let mut folders = vec![Path::new(env!("CARGO_MANIFEST_DIR")).join("../cojimuran/src")];
     let exported = concat!(include_str!("../../cojimuran/src/lib.rs"), include_str!("../../cojimuran/src/parts.rs"));

@@ -76,20 +76,35 @@ fn the_package_needs_no_std() {
     assert!(root.contains("\n#![no_std]\n") && root.contains("\n#![deny(unsafe_code)]\n"));
 }
 
-/// Each part has its row in the table, and each file with an export a mistake.
+/// Returns each module of parts that exports something, and the names that it exports.
+fn exports_of_parts() -> Vec<(&'static str, &'static str)> {
+    let lines = include_str!("../../cojimuran/src/parts.rs").lines();
+    lines.filter_map(|line| line.strip_prefix("pub use ")?.rsplit_once("::")).collect()
+}
+
 #[test]
 fn each_part_has_a_row() {
-    let (tuples, table) = (include_str!("rooms.rs"), include_str!("../src/parts.rs"));
-    let mistakes = include_str!("../../../crates/lexical_parts/mistakes/bodies.edit");
-    let exports = include_str!("../../cojimuran/src/parts.rs").lines().filter_map(|line| line.strip_prefix("pub use "));
-    let exports: Vec<(&str, &str)> = exports.filter_map(|path| path.rsplit_once("::")).collect();
+    let (exports, table) = (exports_of_parts(), include_str!("../src/parts.rs"));
     let names = exports.iter().flat_map(|(_, names)| names.split(|c: char| !c.is_alphanumeric()));
     let parts: Vec<&str> = names.filter(|name| name.starts_with(char::is_uppercase)).collect();
     let has_row =
         |name: &str| ["Part", "Buffer", "Show", "Shown"].contains(&name) || table.contains(&format!("{name}("));
-    let missing = parts.iter().copied().filter(|name| !has_row(name));
+    let missing: Vec<&&str> = parts.iter().filter(|name| !has_row(name)).collect();
+    assert!(missing.is_empty(), "src/parts.rs has no row for {missing:?}");
+    assert!(parts.len() > 20);
+}
+
+#[test]
+fn each_module_of_parts_has_a_mistake() {
+    let mistakes = include_str!("../../../crates/lexical_parts/mistakes/bodies.edit");
     let has_mistake = |module: &str| mistakes.contains(&format!("file: src/{}.rt", module.replace("::", "/")));
-    let missing = missing.chain(exports.iter().map(|(module, _)| *module).filter(|module| !has_mistake(module)));
-    assert_eq!(missing.collect::<Vec<_>>(), Vec::<&str>::new());
-    assert!(parts.len() > 20 && (2..=12).all(|count| tuples.contains(&format!(") => {count}, \""))));
+    let modules: Vec<&str> = exports_of_parts().into_iter().map(|(module, _)| module).collect();
+    let missing: Vec<&&str> = modules.iter().filter(|module| !has_mistake(module)).collect();
+    assert!(missing.is_empty(), "mistakes/bodies.edit of lexical_parts has no mistake in {missing:?}");
+}
+
+#[test]
+fn each_length_of_a_tuple_has_a_row() {
+    let rows = include_str!("rooms.rs");
+    assert!((2..=12).all(|count| rows.contains(&format!(") => {count}, \""))));
 }

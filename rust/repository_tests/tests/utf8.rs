@@ -8,9 +8,6 @@ use repository_tests::parts::Values;
 use repository_tests::random::Random;
 use std::panic::{AssertUnwindSafe, catch_unwind, set_hook};
 use std::str::from_utf8;
-use std::sync::atomic::{AtomicU64, Ordering::Relaxed};
-
-static TEXTS: AtomicU64 = AtomicU64::new(0);
 
 /// A part of a caller, with any bytes.
 #[derive(Clone, Copy)]
@@ -42,7 +39,6 @@ fn check_calls(to_text: &dyn Fn(&mut [u8]) -> Vec<u8>, to_str: &dyn Fn(&mut [u8]
             Ok(found) => assert!(from_utf8(&found).is_ok() && Some(&found) == text.as_ref()),
             Err(_) => assert!(length < 400 || !is_utf8, "{text:?}"),
         }
-        TEXTS.fetch_add(1, Relaxed);
     }
 }
 
@@ -74,6 +70,7 @@ fn each_str_is_utf8() {
     let random = &mut Random(9);
     let groups =
         NumberFormatBuilder::new().radix(7).required_mantissa_sign(true).digit_grouping(2, b'~').build_strict();
+    // The variable ROUNDS asks for more.
     let rounds = std::env::var("ROUNDS").map_or(12, |rounds| rounds.parse().unwrap());
     for _ in 0..rounds {
         let (bits, small) = (random.number(), random.bits() >> 20);
@@ -95,7 +92,6 @@ fn each_str_is_utf8() {
         let text = Buffer::new().format(bits as i64).to_owned();
         assert_eq!(text, (bits as i64).to_string());
     }
-    println!("{} texts", TEXTS.load(Relaxed));
 }
 
 /// `write_pieces` of such bytes returns an error, or panics where it first needs the whole text.
