@@ -239,8 +239,8 @@ struct lexical_format {
  * A field that is a variable should be a uint32_t: an int would be narrowed, which clang
  * refuses and g++ warns of.
  *
- * C89 and C++98 do not have this macro. It does not check the radix when you compile, as
- * LEXICAL_RADIX does.
+ * C89 and C++98 do not have this macro. Unlike LEXICAL_RADIX, it does not check the radix
+ * when you compile.
  */
 #if defined(__cplusplus)
 #if __cplusplus >= 201103L
@@ -268,8 +268,8 @@ struct lexical_format {
 
 /*
  * The standard format, as an initializer and as an object: decimal, with no '+'
- * and no groups. lexical_decimal writes its texts, and lexical_length with
- * &lexical_standard_format returns their lengths.
+ * and no groups. lexical_decimal writes in this format. For the length of its text, call
+ * lexical_length with &lexical_standard_format.
  */
 #define LEXICAL_STANDARD_FORMAT { 10, 0, 0, 0, 0, { 0, 0 } }
 #if defined(__cplusplus) && __cplusplus >= 201703L
@@ -480,15 +480,14 @@ size_t lexical_terminate(size_t count, char *buffer, size_t size) LEXICAL_NOEXCE
  * and clang in C99. They call the function for the type of the value, for example
  * lexical_write_i32 for an int. In C they are macros, which evaluate each argument once.
  *
- * - A variable of the type char or bool is refused, and in C++ also any other expression of
- *   these types or of wchar_t, char8_t, char16_t or char32_t: cast it to int if you mean its
- *   number.
+ * - A value of the type char or bool is refused, and in C++ also one of wchar_t, char8_t,
+ *   char16_t or char32_t: cast it to int if you mean its number.
  * - In C, 'x', a > b and (before C23) true are of the type int, so they compile.
  * - In C, gcc also refuses a bit-field, unless it has 8, 16, 32 or 64 bits: cast it to the
  *   type with which it is declared.
  * - In C++98 cast a long long to int64_t.
  *
- * In C pass a pointer to the format, which LEXICAL_FORMAT is too. In C++ you can also pass
+ * In C pass a pointer to a format. LEXICAL_FORMAT is such a pointer. In C++ you can also pass
  * the format itself, and in C++11 and later an initializer:
  *
  *     count = lexical_write(48879, LEXICAL_RADIX(16), buffer, sizeof buffer);
