@@ -113,8 +113,8 @@
 //!
 //! # A part of your own
 //!
-//! Usually it delegates to a part of this crate. Every part is `Copy`. If your type is not, implement both traits for
-//! `&YourType`:
+//! A part of your own usually delegates to a part of this crate. Every part is `Copy`. If your type is not, implement
+//! `Part` and `Show` for `&YourType`:
 //!
 //! ```
 #![doc = include_str!("../examples/own_part.rs")]
@@ -122,15 +122,15 @@
 //!
 //! # If it does not compile
 //!
-//! In these messages `write_pieces` or another call may stand for `to_str`, and "a part with `Show`" for "a part".
+//! Your message may name another call than `to_str`, or say "a part with `Show`".
 //!
 //! | rustc says | write |
 //! |---|---|
 //! | `i32` is not an unsigned integer type, or `to_str` exists for `Hex<i32>`, but its trait bounds were not satisfied | an unsigned number, such as `Hex(255u8)`, or for a negative number in a radix `Formatted(number, &FORMAT)` |
 //! | `(f64, u8)` is not a part, or `to_str` exists for `(u128, &str)`, but its trait bounds were not satisfied | `Displayed(&value)` for the member that is not a part |
-//! | `u128` is not an unsigned integer type | `Displayed(&number)`, which writes it in decimal |
+//! | `u128` is not an unsigned integer type, or `to_str` exists for `Hex<u128>`, but its trait bounds were not satisfied | `Displayed(&number)`, or in hexadecimal `Displayed(&format_args!("{number:X}"))` |
 //! | `T` is not a part, for a type parameter with `T: ToLexical` | `Decimal(value)` |
-//! | the same of a tuple of parts with more than 12 members | tuples in a tuple |
+//! | a tuple of parts with more than 12 members is not a part | tuples in a tuple |
 //! | `(String, u8)` is not a part, or `to_str` exists for `(&str, &String)`, but its trait bounds were not satisfied | `string.as_str()`, or, with the feature `alloc`, `&string` |
 //! | `to_str` exists for `Joined<'_, String>`, but its trait bounds were not satisfied | a list of `&str`: `Joined(&strings.iter().map(String::as_str).collect::<Vec<_>>(), ",")` |
 //! | `(u8, Option<String>)` is not a part | `option.as_deref()` |
