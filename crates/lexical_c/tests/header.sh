@@ -11,7 +11,11 @@ with_each() {
     esac
     if [ "$own" = "$other" ] || [ -n "$TARGET" ]; then other=''; fi
     for compiler in "$own" $other; do
-      ! compiles "$compiler" "$language" "-std=$standard" || "$2" "$compiler $flags -std=$standard"
+      if compiles "$compiler" "$language" "-std=$standard"; then
+        "$2" "$compiler $flags -std=$standard"
+      else
+        echo "left out: $2 as $standard, for want of a $compiler that knows it"
+      fi
     done
   done
 }

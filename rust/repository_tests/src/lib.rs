@@ -1,5 +1,7 @@
-//! What the tests of the repository share: what stands for the runtime of Rattle, each part, and random numbers.
+//! What the tests of the repository share: what stands for the runtime of Rattle, each part, random numbers, and the
+//! search for names in sources.
 
+pub mod names;
 pub mod parts;
 pub mod random;
 pub mod runtime;

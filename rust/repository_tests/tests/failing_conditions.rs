@@ -16,6 +16,7 @@ use cojimuran::{
     write_field, write_sign, write_with_length,
 };
 use lexwrite::lines::join;
+use repository_tests::names::{calls, has_word};
 use std::panic::{AssertUnwindSafe, catch_unwind, resume_unwind};
 use std::path::Path;
 use std::sync::mpsc::{self, RecvTimeoutError};
@@ -122,6 +123,12 @@ fn short_buffers_of_each_function(called: &mut Vec<Panicking>) {
     }
 }
 
+/// Returns whether a function is in no `impl` and in no trait, by the text before its `fn`. Such a function has callers
+/// only if it is exported.
+fn is_outside_of_impls(before: &str) -> bool {
+    before.ends_with("\npub ")
+}
+
 /// Returns each function of the package whose documentation says when it panics, with each of these conditions. For
 /// example, of `If the radix is not from 2 to 36, or if the buffer is [too short](crate::conditions).` above `fn radix`
 /// these are `radix` with `the radix is not from 2 to 36`, and `radix` with `the buffer is too short`.
@@ -138,8 +145,7 @@ fn documented() -> Vec<(String, String)> {
             for after in fs::read_to_string(&path).unwrap().split("# Panics\n").skip(1) {
                 let (before, rest) = after.split_once("fn ").unwrap();
                 let name = rest.split(['(', '<']).next().unwrap();
-                // A function without a `self` of which nothing is exported has no callers.
-                if before.ends_with("\npub ") && !exported.contains(name) {
+                if is_outside_of_impls(before) && !has_word(exported, name) {
                     continue;
                 }
                 let comment = after.lines().map_while(|line| line.trim_start().strip_prefix("///")).collect::<String>();
@@ -155,12 +161,6 @@ fn documented() -> Vec<(String, String)> {
         }
     }
     found
-}
-
-/// Returns whether an expression calls a function of this name.
-fn calls(expression: &str, name: &str) -> bool {
-    let is_in_name = |c: char| c.is_alphanumeric() || c == '_';
-    expression.match_indices(&format!("{name}(")).any(|(at, _)| !expression[..at].ends_with(is_in_name))
 }
 
 #[test]
@@ -226,6 +226,7 @@ macro_rules! check_messages {
     };
 }
 
+/// Makes calls that panic with certain messages, and appends them.
 fn messages(called: &mut Vec<Panicking>) {
     let buffer = &mut [7; 128];
     let builder = NumberFormatBuilder::new();

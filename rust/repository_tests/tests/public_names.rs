@@ -23,6 +23,7 @@ use lexwrite::lines::{
     Answerer, BlockSink, BlockSource, BlockWriter, ByteSink, ByteSource, Reading, SliceSink, SliceSource, Writing,
     answer_lines, answer_reader, answer_slice, answer_stream, join, put_all, run, status, write_joined,
 };
+use repository_tests::names::calls;
 use std::fmt::Debug;
 use std::hash::Hash;
 use std::panic::{RefUnwindSafe, UnwindSafe};
@@ -79,7 +80,11 @@ fn the_package_needs_no_std() {
 /// Returns each module of parts that exports something, and the names that it exports.
 fn exports_of_parts() -> Vec<(&'static str, &'static str)> {
     let lines = include_str!("../../cojimuran/src/parts.rs").lines();
-    lines.filter_map(|line| line.strip_prefix("pub use ")?.rsplit_once("::")).collect()
+    let exports = lines.filter_map(|line| line.strip_prefix("pub use "));
+    exports
+        .inspect(|line| assert!(line.ends_with(';'), "{line} goes on"))
+        .filter_map(|line| line.rsplit_once("::"))
+        .collect()
 }
 
 #[test]
@@ -87,8 +92,7 @@ fn each_part_has_a_row() {
     let (exports, table) = (exports_of_parts(), include_str!("../src/parts.rs"));
     let names = exports.iter().flat_map(|(_, names)| names.split(|c: char| !c.is_alphanumeric()));
     let parts: Vec<&str> = names.filter(|name| name.starts_with(char::is_uppercase)).collect();
-    let has_row =
-        |name: &str| ["Part", "Buffer", "Show", "Shown"].contains(&name) || table.contains(&format!("{name}("));
+    let has_row = |name: &str| ["Part", "Buffer", "Show", "Shown"].contains(&name) || calls(table, name);
     let missing: Vec<&&str> = parts.iter().filter(|name| !has_row(name)).collect();
     assert!(missing.is_empty(), "src/parts.rs has no row for {missing:?}");
     assert!(parts.len() > 20);
