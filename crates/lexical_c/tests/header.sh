@@ -99,13 +99,19 @@ check_refused() {
     c++*) types='char bool wchar_t char16_t char32_t' ;;
     *) types='char _Bool' ;;
   esac
-  case $1 in clang*) ;; *2x) expect "true is refused by $1" reports . "$1" '(1' '(true' -w -include stdbool.h ;; esac
-  for type in $types; do expect "a $type is refused by $1" reports . "$1" '(1' "(($type)1" -w; done
-  case ${1##*=} in c++98) ;; c++*)
-    expect "{} as a format is refused by $1" reports . "$1" ' FORMAT' ' {}' -w
-    expect "nullptr as a format is refused by $1" reports . "$1" ' FORMAT' ' nullptr' -w ;;
+  case $1 in
+    clang*) ;;
+    *2x) expect "true is refused by $1" reports . "$1" '(1' '(true' -w -include stdbool.h ;;
   esac
-  case ${1##*=} in c++98) return ;; c++*) cast= ;; *) cast='\&(const struct lexical_format)' ;; esac
+  for type in $types; do expect "a $type is refused by $1" reports . "$1" '(1' "(($type)1" -w; done
+  case ${1##*=} in
+    c++98) return ;;
+    c++*)
+      cast=
+      expect "{} as a format is refused by $1" reports . "$1" ' FORMAT' ' {}' -w
+      expect "nullptr as a format is refused by $1" reports . "$1" ' FORMAT' ' nullptr' -w ;;
+    *) cast='\&(const struct lexical_format)' ;;
+  esac
   for radix in -1 0 1 37 74 266 4294967306LL; do
     expect "radix $radix is refused by $1" reports . "$1" ' FORMAT' " ${cast}LEXICAL_RADIX($radix)" -w
   done

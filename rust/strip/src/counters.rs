@@ -65,6 +65,7 @@ fn is_for_proofs(statement: &[Token], laws: &Names) -> bool {
         return false;
     }
     let arguments = opening(statement, statement.len() - 1);
+    // The callee is the word before the arguments, or before its type arguments: `law` of `module::law::<u8>(x)`.
     let Some(name) = (0..arguments).find(|at| after_type_arguments(statement, at + 1) == arguments) else {
         return false;
     };
@@ -116,15 +117,16 @@ pub(crate) fn without_counted(tokens: &mut Vec<Token>) {
     }
     for name in names {
         let named = functions(tokens).into_iter().filter(|each| each.name(tokens) == name);
-        let (callers, others): (Vec<_>, Vec<_>) = named.partition(|each| only_calls_itself(tokens, each));
+        let (callers, others): (Vec<_>, Vec<_>) = named.partition(|each| only_passes_on(tokens, each));
         if let ([caller], [other, ..]) = (&*callers, &*others) {
             make_one(tokens, caller, other);
         }
     }
 }
 
-/// Returns whether a function does nothing but to call itself with its own parameters.
-fn only_calls_itself(tokens: &[Token], function: &Function) -> bool {
+/// Returns whether a function does nothing but to call one of its own name, with its own parameters. Both have that name
+/// because the ending is cut.
+fn only_passes_on(tokens: &[Token], function: &Function) -> bool {
     let parameters = elements(tokens, function.parameters).into_iter().map(|range| &*tokens[range.start].text);
     let parameters: Vec<&str> = parameters.filter(|parameter| *parameter != "self").collect();
     let call = format!("{} ( {} )", function.name(tokens), parameters.join(" , ")).replace("  ", " ");

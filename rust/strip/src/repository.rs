@@ -81,6 +81,12 @@ impl Repository {
                 return Err(format!("{}: it has no {name}", source.name));
             }
         }
+        for file in &repository.files {
+            let is_other = |name: &&String| repository.laws.contains(*name) && !file.source.is_law(name, &file.name);
+            if let Some(name) = declared_names(&file.tokens).find(is_other) {
+                return Err(format!("{}: {name} is also the name of a law", file.path().display()));
+            }
+        }
         let faults: Vec<String> = rules.iter().filter_map(Rule::fault).collect();
         if !faults.is_empty() {
             return Err(faults.join("\n"));

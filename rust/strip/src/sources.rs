@@ -139,8 +139,8 @@ pub(crate) const SOURCES: &[Source] = &[
         attributes: &[
             (NO_INTEGER, "Decimal ToLexical ToLexicalWithOptions"),
             (NOT_UNSIGNED, "Radix DigitCount"),
-            // In small code a call is left of the first two, and else rustc has them in the caller. The others are
-            // called from the writer of long numbers, which calls itself.
+            // With `s` and `z` rustc leaves the first two as calls, so callers stay small, and with `3` it inlines them.
+            // The others are called from the writer of long numbers, which calls itself.
             ("#[inline]", "shared_write_32 shared_write_64 eighth_power count_and_write_above_eight"),
             // What chooses a writer, the decimal writer, the writer for radices with a fast count, and what
             // `write_by_table_out_of_line` calls. If the format or the radix is constant in a caller, so is the choice.
