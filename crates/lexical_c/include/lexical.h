@@ -61,7 +61,8 @@
  * 0, the buffer was too short. No call changes errno.
  *
  * Threads and signals. The functions have no state and allocate nothing. So you can call
- * them in any thread, if each thread uses its own buffer, and in any signal handler.
+ * them in any thread and in any signal handler, if during the call nothing else uses the
+ * buffer or changes the format.
  *
  * Proof. The sources of the library were proved by a prover that is not public. The
  * compiled library and this header are tested, and not proved.
@@ -207,7 +208,7 @@ size_t lexical_decimal_i64(int64_t value, char *buffer, size_t size) LEXICAL_NOE
  *
  * From C++14 on, each field after the radix has the default value 0, so the struct has no
  * trivial default constructor. To clear a format write `format = {}`, because g++ warns of
- * memset. Initialize each variable of a union that has a format as a member.
+ * memset. A variable of a union that has a format as a member must be initialized.
  */
 struct lexical_format {
     /* From 2 to 36. */
@@ -239,7 +240,7 @@ struct lexical_format {
  * A field that is a variable should be a uint32_t: an int would be narrowed, which clang
  * refuses and g++ warns of.
  *
- * C89 and C++98 do not have this macro. Unlike LEXICAL_RADIX, it does not check the radix
+ * C89 and C++98 do not have this macro. Unlike with LEXICAL_RADIX, the radix is not checked
  * when you compile.
  */
 #if defined(__cplusplus)
@@ -441,8 +442,8 @@ size_t lexical_write_i64(int64_t value, const struct lexical_format *format,
  * not grouped: 1,234,567 padded to 12 bytes is 0001,234,567.
  *
  * If `width` is greater than `size`, lexical_pad returns 0, although the text without
- * zeros is in the buffer. To keep that text, save its length: lexical_terminate with that 0
- * erases it.
+ * zeros is in the buffer. To keep that text, save its length before: lexical_terminate with
+ * a count of 0 erases the text.
  */
 LEXICAL_HAS((nothrow, warn_unused_result)) LEXICAL_ACCESS((read_write, 3, 4))
 size_t lexical_pad(size_t count, size_t width, char *buffer, size_t size) LEXICAL_NOEXCEPT;
@@ -455,8 +456,8 @@ size_t lexical_pad(size_t count, size_t width, char *buffer, size_t size) LEXICA
  *     size    the size of the buffer in bytes, with a byte for the NUL
  *
  * Returns `count`. Returns 0 if `count` is 0, or if `size` is not greater than `count`, so
- * that the NUL does not fit. Then a text in the buffer is lost: the buffer becomes an empty
- * string, unless `size` is 0. So a buffer of at least one byte is a string after every call,
+ * that the NUL does not fit. Then the buffer becomes an empty string, and a text in it is
+ * lost, unless `size` is 0. So a buffer of at least one byte is a string after every call,
  * and you may ignore the result where an empty string will do.
  */
 LEXICAL_HAS((nothrow)) LEXICAL_ACCESS((write_only, 2, 3))
