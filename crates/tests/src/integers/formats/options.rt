@@ -1,18 +1,24 @@
 //! Tests of the options and of their builder, which have nothing to set yet.
 
+ghost use Rattle.std.specs.Prelude.{◌≡◌, IsTrue};
+
 use crate::checks::check_equal;
 use lexical_num::{WriteOptions, options};
 use lexical_write_integer::{Options, OptionsBuilder};
 use std::cmp::Ordering;
 use std::process::Abort;
 
-// Returns whether two options are equal and compare as equal.
-fn are_equal(a: &Options, b: &Options) -> bool {
+// Returns whether two options are equal and compare as equal, which they always do.
+fn are_equal(a: &Options, b: &Options) -> bool
+    ensures { IsTrue result }
+{
     a == b && a.cmp(b) == Ordering::Equal
 }
 
-// Returns whether two builders of options are equal and compare as equal.
-fn are_equal_builders(a: &OptionsBuilder, b: &OptionsBuilder) -> bool {
+// Returns whether two builders of options are equal and compare as equal, which they always do.
+fn are_equal_builders(a: &OptionsBuilder, b: &OptionsBuilder) -> bool
+    ensures { IsTrue result }
+{
     a == b && a.cmp(b) == Ordering::Equal
 }
 
