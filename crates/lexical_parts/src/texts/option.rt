@@ -1,6 +1,7 @@
 //! Parts that may be absent: the text of `Some(part)` is that of the part, and `None` has no bytes.
 
-ghost use Rattle.std.specs.Prelude.{IfNone, IfSome, IsSome, IsTrue, max};
+ghost use Rattle.std.specs.Option.{option_map_or};
+ghost use Rattle.std.specs.Prelude.{IfNone, IfSome, IsSome, IsTrue, MatchOption};
 ghost use Rattle.lexical_parts.specs.Length.{HasLength, IsOnly};
 ghost use Rattle.lexical_parts.specs.Optional.{IsOptional, IsOrElse, IsValidOptional, optional_room};
 ghost use Rattle.lexical_parts.specs.Optional.{optional_text, or_else_text};
@@ -82,8 +83,7 @@ impl<P: Show> Show for Option<P> {
 }
 
 /// A part that may be absent, and the part that is written in its place: `OrElse(Some(5u8), "n/a")` writes `5`, and
-/// `OrElse(None::<u8>, "n/a")` writes `n/a`. Both must be valid, although most calls do not check the one that is not
-/// written. Its room is the larger of the two.
+/// `OrElse(None::<u8>, "n/a")` writes `n/a`. Its conditions and its room are those of the part that it writes.
 ///
 /// ```
 /// use lexical_parts::{OrElse, Part};
@@ -97,14 +97,17 @@ pub struct OrElse<P, Q>(pub Option<P>, pub Q);
 impl<P: Part, Q: Part> Part for OrElse<P, Q> {
     ghost is_text = { λ part. IsOrElse P.is_text (Q.is_text part.1) part.0 };
 
-    ghost is_valid = { λ part. IsValidOptional P.is_valid part.0 × Q.is_valid part.1 };
+    ghost is_valid = { λ part. MatchOption part.0 (Q.is_valid part.1) P.is_valid };
 
-    ghost room = { λ part. max (optional_room P.room part.0) (Q.room part.1) };
+    ghost room = { λ part. option_map_or P.room part.0 (Q.room part.1) };
 
-    ghost is_utf8 = { λ part. IsValidOptional P.is_utf8 part.0 × Q.is_utf8 part.1 };
+    ghost is_utf8 = { λ part. MatchOption part.0 (Q.is_utf8 part.1) P.is_utf8 };
 
     fn room(self) -> usize {
-        self.0.room().max(self.1.room())
+        match self.0 {
+            Some(present) => present.room(),
+            None => self.1.room(),
+        }
     }
 
     fn write_to(self, buffer: &mut [u8]) -> usize {
@@ -122,7 +125,10 @@ impl<P: Part, Q: Part> Part for OrElse<P, Q> {
     }
 
     fn is_known_valid_and_utf8(self, sealed: Sealed) -> bool {
-        self.0.is_known_valid_and_utf8(sealed) && self.1.is_known_valid_and_utf8(sealed)
+        match self.0 {
+            Some(present) => present.is_known_valid_and_utf8(sealed),
+            None => self.1.is_known_valid_and_utf8(sealed),
+        }
     }
 }
 
@@ -130,7 +136,10 @@ impl<P: Show, Q: Show> Show for OrElse<P, Q> {
     ghost text = { λ part. or_else_text P.text (Q.text part.1) part.0 };
 
     fn is_showable(self) -> bool {
-        self.0.is_showable() && self.1.is_showable()
+        match self.0 {
+            Some(present) => present.is_showable(),
+            None => self.1.is_showable(),
+        }
     }
 
     fn write_pieces<O: fmt::Write>(self, out: &mut O) -> fmt::Result {

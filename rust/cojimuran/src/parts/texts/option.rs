@@ -62,8 +62,7 @@ impl<P: Show> Show for Option<P> {
 }
 
 /// A part that may be absent, and the part that is written in its place: `OrElse(Some(5u8), "n/a")` writes `5`, and
-/// `OrElse(None::<u8>, "n/a")` writes `n/a`. Both must be valid, although most calls do not check the one that is not
-/// written. Its room is the larger of the two.
+/// `OrElse(None::<u8>, "n/a")` writes `n/a`. Its conditions and its room are those of the part that it writes.
 ///
 /// ```
 /// use cojimuran::{OrElse, Part};
@@ -77,7 +76,10 @@ pub struct OrElse<P, Q>(pub Option<P>, pub Q);
 impl<P: Part, Q: Part> Part for OrElse<P, Q> {
     #[inline(always)]
     fn room(self) -> usize {
-        self.0.room().max(self.1.room())
+        match self.0 {
+            Some(present) => present.room(),
+            None => self.1.room(),
+        }
     }
 
     #[inline(always)]
@@ -98,14 +100,20 @@ impl<P: Part, Q: Part> Part for OrElse<P, Q> {
 
     #[inline(always)]
     fn is_known_valid_and_utf8(self, sealed: Sealed) -> bool {
-        self.0.is_known_valid_and_utf8(sealed) && self.1.is_known_valid_and_utf8(sealed)
+        match self.0 {
+            Some(present) => present.is_known_valid_and_utf8(sealed),
+            None => self.1.is_known_valid_and_utf8(sealed),
+        }
     }
 }
 
 impl<P: Show, Q: Show> Show for OrElse<P, Q> {
     #[inline(always)]
     fn is_showable(self) -> bool {
-        self.0.is_showable() && self.1.is_showable()
+        match self.0 {
+            Some(present) => present.is_showable(),
+            None => self.1.is_showable(),
+        }
     }
 
     #[inline(always)]
