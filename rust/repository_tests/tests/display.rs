@@ -372,12 +372,39 @@ fn own_parts() {
 
 #[test]
 fn parts_that_are_not_shown() {
-    fn is_refused<P: Show>(part: P) -> bool {
-        write!(String::new(), "{}", Shown(part)).is_err() && write!(String::new(), "{:9}", Shown(part)).is_err()
+    fn check_refused<P: Show>(part: P) {
+        assert!(write!(String::new(), "{}", Shown(part)).is_err());
+        assert!(write!(String::new(), "{:9}", Shown(part)).is_err());
+        assert!(part.write_pieces(&mut String::new()).is_err());
     }
-    assert!(is_refused((1u8, Digits(37, 1u8))) && is_refused(Joined(&[Padded(1u8, 1), Padded(10, 1)], ",")));
-    assert!(is_refused(Bytes(&[200])) && is_refused((Byte(128), 1u8)) && is_refused(Left(1u8, 2, 128)));
-    assert!(is_refused(Own(i64::MIN)) && is_refused(("own", Own(i64::MIN))) && is_refused(Fixed(1u8, 20)));
+    /// Checks a part that is refused, and parts that contain it.
+    fn check_each_refused<P: Show>(part: P) {
+        check_refused(part);
+        check_refused((1u8, part));
+        check_refused(Some(part));
+        check_refused(OrElse(None::<u8>, part));
+        check_refused(Joined(&[part, part], ","));
+        check_refused(&part);
+        for width in [5, 300] {
+            check_refused(Left(part, width, b' '));
+            check_refused(Right(part, width, b' '));
+            check_refused(Center(part, width, b' '));
+            check_refused(ZeroPadded(part, width));
+        }
+        check_refused(Lower(part));
+        // What is not written is not asked for.
+        assert_eq!(OrElse(Some(7u8), part).to_string(), "7");
+    }
+    check_each_refused(Own(i64::MIN));
+    check_each_refused(Digits(37, 1u8));
+    check_each_refused(Fixed(1u8, 20));
+    check_each_refused(Padded(10u8, 1));
+    check_each_refused(PaddedDigits(16, 16u8, 1));
+    check_each_refused(Byte(128));
+    check_each_refused(Bytes(&[200]));
+    check_refused((Byte(0xC3), Byte(0xA9)));
+    check_refused(Left(1u8, 2, 128));
+    check_refused(Joined(&[Padded(1u8, 1), Padded(10, 1)], ","));
 }
 
 #[test]

@@ -11,9 +11,9 @@ use cojimuran::padded::write_padded;
 use cojimuran::radix::{Radix, digit_to_char};
 use cojimuran::write::WriteInteger;
 use cojimuran::{
-    Append, Byte, Bytes, Decimal, Digits, Fixed, Joined, Left, NumberFormatBuilder, Options, Padded, PaddedDigits,
-    Part, Show, ToLexical, ToLexicalWithOptions, TrimmedFixed, UnsignedInteger, group_digits, jeaiii, table,
-    write_field, write_sign, write_with_length,
+    Append, Bytes, Decimal, Digits, Fixed, Joined, Left, NumberFormatBuilder, Options, Padded, PaddedDigits, Part,
+    ToLexical, ToLexicalWithOptions, TrimmedFixed, UnsignedInteger, group_digits, jeaiii, table, write_field,
+    write_sign, write_with_length,
 };
 use lexwrite::lines::join;
 use repository_tests::names::{calls, has_word};
@@ -250,7 +250,7 @@ fn messages(called: &mut Vec<Panicking>) {
         "a part is invalid: then `build` returns an error", "the separator is a letter, a digit or a sign":
             builder.digit_grouping(3, b'0').build_strict();
         "the part is not valid", "20 decimals, but at most 19": Fixed(7i64, 20).to_text(buffer),
-            TrimmedFixed(7u8, 20).write_to(buffer), Fixed(7u8, 20).write_pieces(&mut String::new());
+            TrimmedFixed(7u8, 20).write_to(buffer);
         "the part is not valid, for some parts", "radix": Digits(37, 7u8).room(), Digits(1, 7u8).text_len();
         "the part is not valid, for some parts", "20 decimals, but at most 19": Fixed(7u8, 20).room(),
             TrimmedFixed(7u8, 20).room(), Fixed(7u8, 20).text_len();
@@ -268,8 +268,6 @@ fn messages(called: &mut Vec<Panicking>) {
         "the text does not have `count` bytes", "the text does not have `count` bytes": write_field("ab", 0, 3, buffer);
         "the text of the part is not UTF-8", "the text is not UTF-8": not_utf8.to_str(buffer),
             not_utf8.try_to_str(buffer);
-        "its text is not UTF-8 and no error is returned for that", "the text is not UTF-8":
-            Byte(200).write_pieces(&mut String::new());
         "the length and `extra` together are above `usize::MAX`",
             "the length and `extra` together are above usize::MAX":
             write_with_length("ab", 10, 20, usize::MAX - 1, buffer);

@@ -100,10 +100,8 @@ fn values_that_are_not_written() {
     assert!(catch_unwind(|| Displayed(&Never).write_to(&mut [0; 9])).is_err());
     assert!(catch_unwind(|| Displayed(&12345).write_to(&mut [0; 4])).is_err());
     assert!(Displayed(&Never).write_pieces(&mut String::new()).is_err());
-    assert!((1u8, Bytes(b"\xFF")).write_pieces(&mut String::new()).is_err());
     // A column needs the length first.
     assert!(catch_unwind(|| Left(Displayed(&Never), 5, b' ').write_pieces(&mut String::new())).is_err());
-    assert!(catch_unwind(|| Left(Bytes(b"\xFF"), 5, b' ').write_pieces(&mut String::new())).is_err());
 }
 
 #[test]

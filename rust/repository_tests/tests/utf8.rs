@@ -94,24 +94,6 @@ fn each_str_is_utf8() {
     }
 }
 
-/// `write_pieces` of such bytes returns an error, or panics where it first needs the whole text.
-#[test]
-fn bad_bytes_are_never_pieces() {
-    be_silent();
-    fn is_error<P: Show>(part: P) -> Option<bool> {
-        catch_unwind(AssertUnwindSafe(|| part.write_pieces(&mut String::new()).is_err())).ok()
-    }
-    let bytes = Bytes(&[200]);
-    assert_eq!(is_error(bytes), Some(true));
-    assert_eq!(is_error(("id=", bytes)), Some(true));
-    assert_eq!(is_error(Some(bytes)), Some(true));
-    assert_eq!(is_error(Joined(&[bytes], ",")), Some(true));
-    assert_eq!(is_error(Left(bytes, 5, b' ')), None);
-    assert_eq!(is_error(ZeroPadded(bytes, 5)), None);
-    assert_eq!(is_error(Lower(bytes)), None);
-    assert_eq!(is_error((Byte(0xC3), Byte(0xA9))), None);
-}
-
 /// Parts that contain one whose bytes are not UTF-8 panic.
 #[test]
 fn bad_bytes_never_become_a_str() {

@@ -61,8 +61,6 @@ pub(crate) fn write_first_chars<P: Show, O: fmt::Write>(
     most: usize,
     out: &mut O,
 ) -> Result<usize, fmt::Error>
-    requires valid { P.is_valid part }
-    requires utf8 { P.is_utf8 part }
     ensures { IfOk result (λ left. (text : List ℕ) × P.is_text part text
         × WritesInCalls O.write_str_gives out.old (take_chars most text) out.new × (left ≡ most - char_count text)) }
 {

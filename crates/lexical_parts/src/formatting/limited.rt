@@ -56,8 +56,6 @@ pub(crate) fn write_exactly<P: Show, O: fmt::Write>(
     count: usize,
     out: &mut O,
 ) -> fmt::Result
-    requires valid { P.is_valid part }
-    requires utf8 { P.is_utf8 part }
     ensures { IsOk result → WritesSome O.write_str_gives (IsOfLength (P.is_text part) count) out.old out.new }
 {
     let mut limited = Limited { out, left: count };

@@ -60,8 +60,6 @@ impl<W: fmt::Write> fmt::Write for Through<'_, W> {
 
 // Writes the text to a formatter, whatever its options are.
 fn write_through<P: Show, W: fmt::Write>(part: P, f: &mut fmt::Formatter<W>) -> fmt::Result
-    requires valid { P.is_valid part }
-    requires utf8 { P.is_utf8 part }
     ensures { IsFlush f.old → IsOk result
         → (text : List ℕ) × P.is_text part text × HasWrittenStyled W.write_str_gives f.old text f.new }
 {
@@ -111,8 +109,6 @@ fn is_bare<W: fmt::Write>(f: &fmt::Formatter<W>) -> bool
 // the first time to count its characters. It is cold: most texts are written in one piece.
 #[cold]
 fn pad_pieces<P: Show, W: fmt::Write>(part: P, f: &mut fmt::Formatter<W>) -> fmt::Result
-    requires valid { P.is_valid part }
-    requires utf8 { P.is_utf8 part }
     ensures { IsFlush f.old → IsAligned f.old → IsOk result
         → (text : List ℕ) × P.is_text part text
         × HasWrittenStyled W.write_str_gives f.old (padded (formatter_spec f.old) text) f.new }
@@ -136,8 +132,6 @@ fn write_cut<P: Show, W: fmt::Write>(
     most: usize,
     f: &mut fmt::Formatter<W>,
 ) -> Result<usize, fmt::Error>
-    requires valid { P.is_valid part }
-    requires utf8 { P.is_utf8 part }
     ensures { IfOk result (λ left. IsFlush f.old → (text : List ℕ) × P.is_text part text
         × HasWrittenStyled W.write_str_gives f.old (take_chars most text) f.new × (left ≡ most - char_count text)) }
 {

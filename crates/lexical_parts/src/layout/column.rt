@@ -60,6 +60,9 @@ impl<P: Show> Show for Left<P> {
     }
 
     fn write_pieces<O: fmt::Write>(self, out: &mut O) -> fmt::Result {
+        if !self.is_showable() {
+            return Err(fmt::Error);
+        }
         if self.room() <= MOST_IN_ONE_PIECE {
             return write_in_one_piece(self, out);
         }
@@ -119,6 +122,9 @@ impl<P: Show> Show for Right<P> {
     }
 
     fn write_pieces<O: fmt::Write>(self, out: &mut O) -> fmt::Result {
+        if !self.is_showable() {
+            return Err(fmt::Error);
+        }
         if self.room() <= MOST_IN_ONE_PIECE {
             return write_in_one_piece(self, out);
         }
@@ -181,6 +187,9 @@ impl<P: Show> Show for Center<P> {
     }
 
     fn write_pieces<O: fmt::Write>(self, out: &mut O) -> fmt::Result {
+        if !self.is_showable() {
+            return Err(fmt::Error);
+        }
         if self.room() <= MOST_IN_ONE_PIECE {
             return write_in_one_piece(self, out);
         }

@@ -99,6 +99,9 @@ impl<T: DigitCount + Radix> Show for PaddedDigits<T> {
 
     fn write_pieces<O: fmt::Write>(self, out: &mut O) -> fmt::Result {
         self.1.fits_bits();
+        if !self.is_showable() {
+            return Err(fmt::Error);
+        }
         let width = self.2.min(MOST_DIGITS);
         write_copies(b'0', self.2 - width, out)?;
         write_in_one_piece(PaddedDigits(self.0, self.1, width), out)

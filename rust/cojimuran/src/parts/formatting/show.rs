@@ -27,28 +27,26 @@ pub(crate) const MOST_IN_ONE_PIECE: usize = 256;
     a tuple has 2 to 12 members"
 )]
 pub trait Show: Part {
-    /// Returns whether the part is valid and its text is UTF-8, as `to_str` requires. If it returns `false`, `{}` of
-    /// the part is an error. For a part of your own that is always valid, return `true`.
+    /// Returns whether the part is valid and its text is UTF-8, as `to_str` requires. If it returns `false`, `{}` and
+    /// `write_pieces` of the part return an error. For a part of your own that is always valid, return `true`.
     #[must_use]
     fn is_showable(self) -> bool;
 
-    /// Writes the text to a writer, such as a `String`, in one piece or in several. The part must be valid.
+    /// Writes the text to a writer, such as a `String`, in one piece or in several.
     ///
     /// If you do not define this method, it writes the text in one piece, for which the room must be at most 256 bytes.
     /// A part that can be longer calls this method of the parts that it consists of, one after another.
     ///
     /// # Errors
     ///
-    /// Returns the error of the writer, and an error for a `Bytes` that is not UTF-8, if it is alone, or in a tuple, an
-    /// `Option`, an `OrElse`, a `Joined` or a reference. For a part of your own it also returns an error if its room is
-    /// above 256 bytes and you do not define this method, or if it does not write the same text each time. If it
-    /// returns an error or panics, the writer may have a part of the text.
-    ///
-    /// # Panics
-    ///
-    /// If the part is not valid, or if its text is not UTF-8 and no error is returned for that.
+    /// Returns the error of the writer, or an error if the part is not valid or its text is not UTF-8. For a part of
+    /// your own it also returns an error if its room is above 256 bytes and you do not define this method, or if it
+    /// does not write the same text each time. If it returns an error, the writer may have a part of the text.
     #[inline(always)]
     fn write_pieces<O: fmt::Write>(self, out: &mut O) -> fmt::Result {
+        if !self.is_showable() {
+            return Err(fmt::Error);
+        }
         write_in_one_piece(self, out)
     }
 }

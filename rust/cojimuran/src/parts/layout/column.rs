@@ -53,6 +53,9 @@ impl<P: Show> Show for Left<P> {
 
     #[inline]
     fn write_pieces<O: fmt::Write>(self, out: &mut O) -> fmt::Result {
+        if !self.is_showable() {
+            return Err(fmt::Error);
+        }
         if self.room() <= MOST_IN_ONE_PIECE {
             return write_in_one_piece(self, out);
         }
@@ -108,6 +111,9 @@ impl<P: Show> Show for Right<P> {
 
     #[inline]
     fn write_pieces<O: fmt::Write>(self, out: &mut O) -> fmt::Result {
+        if !self.is_showable() {
+            return Err(fmt::Error);
+        }
         if self.room() <= MOST_IN_ONE_PIECE {
             return write_in_one_piece(self, out);
         }
@@ -166,6 +172,9 @@ impl<P: Show> Show for Center<P> {
 
     #[inline]
     fn write_pieces<O: fmt::Write>(self, out: &mut O) -> fmt::Result {
+        if !self.is_showable() {
+            return Err(fmt::Error);
+        }
         if self.room() <= MOST_IN_ONE_PIECE {
             return write_in_one_piece(self, out);
         }

@@ -64,6 +64,9 @@ impl<P: Show> Show for ZeroPadded<P> {
 
     #[inline]
     fn write_pieces<O: fmt::Write>(self, out: &mut O) -> fmt::Result {
+        if !self.is_showable() {
+            return Err(fmt::Error);
+        }
         if self.room() <= MOST_IN_ONE_PIECE {
             return write_in_one_piece(self, out);
         }

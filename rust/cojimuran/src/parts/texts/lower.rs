@@ -58,6 +58,9 @@ impl<P: Show> Show for Lower<P> {
 
     #[inline(always)]
     fn write_pieces<O: fmt::Write>(self, out: &mut O) -> fmt::Result {
+        if !self.is_showable() {
+            return Err(fmt::Error);
+        }
         if self.room() <= MOST_IN_ONE_PIECE {
             return write_in_one_piece(self, out);
         }

@@ -6,16 +6,18 @@ use Rattle.lexical_parts.proofs.numbers.padded.PaddedDigitsShow.write_pieces.Goa
 
 pub write_in_one_piece-requires-clause-valid : goal.write_in_one_piece-requires-clause-valid
 write_in_one_piece-requires-clause-valid g c =
-    let radix = c.requires.valid.0 in
+    let valid = c.is_showable.ensures.valid c.if-not-is_showable.false in
+    let radix = valid.0 in
     let small = bits-small g.met.T.UnsignedInteger.range.width c.fits_bits.ensures in
-    (radix, rw c.min-width.ensures (fits_in_64 _ _ _ radix.at_least_two small c.requires.valid.1))
+    (radix, rw c.min-width.ensures (fits_in_64 _ _ _ radix.at_least_two small valid.1))
 
 pub returns : goal.returns
 returns g c = λ ok.
+    let valid = c.is_showable.ensures.valid c.if-not-is_showable.false in
     let some = c.write_in_one_piece.ensures ok in
     let within : c.min-width.result ≤ c.args.self.2 = omega (arith, c.min-width.ensures) in
     record {
       text = _;
-      is = wide_padded _ _ _ _ some.text c.requires.valid.0.at_least_two within some.is;
+      is = wide_padded _ _ _ _ some.text valid.0.at_least_two within some.is;
       wrote = writes_in_calls_append _ _ _ _ _ _ (c.in_ok-write_copies.ensures refl) some.wrote;
     }
