@@ -1,5 +1,6 @@
 //! What safe code cannot do, so that no text becomes a `&str` that is not UTF-8 (`Part::to_str`). Only the
-//! documentation tests have this module, and each example must not compile.
+//! documentation tests have this module, and each example must not compile. rustdoc checks that it fails with the error
+//! that is named here if the variable `RUSTC_BOOTSTRAP` is 1.
 //!
 //! A part of one's own does not say that it is known to be UTF-8:
 //!
@@ -106,6 +107,13 @@
 //! ```
 //!
 //! And no type of one's own is an integer type, whose digits a part of the package would write:
+//!
+//! ```compile_fail,E0277
+//! #[derive(Clone, Copy)]
+//! struct Mine;
+//!
+//! impl cojimuran::LexicalInteger for Mine {}
+//! ```
 //!
 //! ```compile_fail,E0603
 //! use cojimuran::sealed::Sealed;
