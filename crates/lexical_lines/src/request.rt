@@ -29,6 +29,10 @@ pub enum Number {
 
 /// Parses a line, which is `None` if it is longer than 64 bytes. Returns the number to write and the
 /// format of its text, or `None` if the line is not valid.
+///
+/// # Not checked
+///
+/// Rust does not check that the line has at most 64 bytes. For a longer one the result is not specified.
 pub fn parse(line: Option<&[u8]>) -> Option<(Number, NumberFormat)>
     requires { IfSome line (λ bytes. length bytes.now ≤ 64) }
     ensures found { IfSome result (λ request. (bytes : List ℕ) → bytes_of line.entry ≡ short_line bytes

@@ -33,6 +33,10 @@ pub fn answer_lines(rt: HostRuntime) -> u8
 
 /// Answers the lines of a reader with `answer_stream`, and returns the exit status. The writer must not have
 /// failed. Of a longer input only the first 2^63 - 1 bytes are read.
+///
+/// # Not checked
+///
+/// Rust does not check that the writer has not failed. Otherwise the answers follow what the writer has taken.
 pub fn answer_reader<R: Read + Drop, K: BlockSink, const SIZE: usize>(
     reader: R,
     writer: &mut BlockWriter<K, SIZE>,
@@ -60,6 +64,11 @@ pub fn answer_reader<R: Read + Drop, K: BlockSink, const SIZE: usize>(
 ///
 /// The block of 128 KiB that is read into is on the stack. With a `BlockWriter` of 16 KiB, a call uses
 /// about 160 KB of stack (180 KB if Rattle's own compiler builds it), and no other memory.
+///
+/// # Not checked
+///
+/// Rust does not check that both devices are new. Otherwise only the rest of the input is answered, after what the
+/// writer has taken.
 pub fn answer_stream<S: BlockSource, K: BlockSink, const SIZE: usize>(
     source: &mut S,
     writer: &mut BlockWriter<K, SIZE>,

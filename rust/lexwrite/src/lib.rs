@@ -3,12 +3,8 @@
 //!
 //! # Conditions
 //!
-//! With a buffer that is too short, a call panics, or its text fits all the same and is right. These conditions are not
-//! checked:
-//!
-//! - The block of `read_block` is not empty. Otherwise it returns 0, as at the end of the input.
-//! - Neither device of `answer_stream` has been used before, and the writer of `answer_reader` has not failed. Otherwise
-//!   only the rest of the input is answered, after what the writer has taken.
+//! With a buffer that is too short, a call panics, or its text fits all the same and is right. The documentation of a
+//! call says which of its conditions are not checked.
 
 #![forbid(unsafe_code)]
 #![warn(missing_docs, clippy::missing_errors_doc)]

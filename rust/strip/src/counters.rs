@@ -1,29 +1,31 @@
-//! Leaves out counters, which are values that only contracts read, and calls of laws, which only prove something.
+//! Leaves out counters, which are values that only contracts read, and calls of laws, which only prove something. What
+//! else names a counter or calls a law stays, and is refused at the end.
 //!
-//! A statement is left out if it only calls a method of a counter, or a law; and then what is empty or unused around
-//! it. So are parameters, arguments and fields that are counters, and functions that only pass a new counter to another
-//! one. What else names a counter or calls a law stays, and is refused at the end.
+//! For example, this function becomes `fn digits(n: u8) -> u8 { n / 10 }`:
+//!
+//! ```text
+//! fn digits_counted(n: u8, turns: &mut Turns) -> u8 {
+//!     below_ten(n);
+//!     let quotient = n / 10;
+//!     if quotient > 0 {
+//!         turns.tick(quotient);
+//!     }
+//!     quotient
+//! }
+//! ```
 
-use crate::items::{Function, after_type_arguments, elements, functions};
-use crate::items::{remove, remove_and_keep_comment, remove_element};
-use crate::left_out::Names;
+use crate::items::{Function, elements, functions, remove, remove_and_keep_comment, remove_element};
+use crate::laws::{Names, is_for_proofs};
+use crate::sources::COUNTERS;
 use crate::tokens::{Token, find, opening, words};
 use std::ops::Range;
-
-/// The types of counters, and the names that all variables, parameters and fields of these types have.
-pub(crate) const COUNTERS: [&str; 5] = ["Turns", "Trace", "turns", "loop_turns", "trace"];
-
-/// The functions that the arguments of laws call. They change nothing, so they are left out with the call of the law.
-const WITHOUT_EFFECT: [&str; 6] = ["as_bytes", "as_u64", "exponent_radix", "from", "from_radix", "mantissa_radix"];
-
-/// What a statement that is only a call does not have.
-const EFFECTS: [&str; 5] = ["?", "!", "=", "{", "return"];
 
 /// The ending of the name of a function with a counter.
 const COUNTED: &str = "_counted";
 
-/// Leaves out the counters of a file, and the calls of laws.
-pub(crate) fn without_counters(tokens: &mut Vec<Token>, laws: &Names) {
+/// Leaves out the statements of a file that only call a law or record in a counter, and what is then empty or unused
+/// around them.
+pub(crate) fn without_statements(tokens: &mut Vec<Token>, laws: &Names) {
     // From the last one: so the places of the others stay as they are.
     for end in (1..tokens.len()).rev() {
         if tokens.get(end).is_some_and(|token| *token == ";") {
@@ -39,6 +41,10 @@ pub(crate) fn without_counters(tokens: &mut Vec<Token>, laws: &Names) {
             }
         }
     }
+}
+
+/// Leaves out the parameters, arguments and fields of a file that are counters.
+pub(crate) fn without_elements(tokens: &mut Vec<Token>) {
     for open in (0..tokens.len()).rev() {
         if tokens[open].is_in(&["(", "{"]) {
             for element in elements(tokens, open).into_iter().rev() {
@@ -56,27 +62,6 @@ fn statement(tokens: &[Token], mut at: usize) -> usize {
         at = if tokens[at - 1].is_in(&[")", "]"]) { opening(tokens, at - 1) } else { at - 1 };
     }
     at
-}
-
-/// Returns whether a statement, without its `;`, only calls a method of a counter or a law.
-fn is_for_proofs(statement: &[Token], laws: &Names) -> bool {
-    let ([first, ..], [.., last]) = (statement, statement) else { return false };
-    if *first == "." || *last != ")" {
-        return false;
-    }
-    let arguments = opening(statement, statement.len() - 1);
-    // The callee is the word before the arguments, or before its type arguments: `law` of `module::law::<u8>(x)`.
-    let Some(name) = (0..arguments).find(|at| after_type_arguments(statement, at + 1) == arguments) else {
-        return false;
-    };
-    let is_method_of_counter = name > 1 && statement[name - 1] == "." && statement[name - 2].is_in(&COUNTERS);
-    let has_effect = |at: usize| {
-        let is_other_call = at != name && statement[at].is_word() && statement[at + 1] == "(";
-        let named = statement[at + 1..].iter().find(|token| !token.is_in(&["self", "."]));
-        let changes = statement[at] == "mut" && !named.is_some_and(|token| token.is_in(&COUNTERS));
-        statement[at].is_in(&EFFECTS) || is_other_call && !statement[at].is_in(&WITHOUT_EFFECT) || changes
-    };
-    (is_method_of_counter || laws.contains(&statement[name].text)) && !(0..statement.len()).any(has_effect)
 }
 
 /// Returns where the `if` is around a statement that was at an index, if nothing else is in it and its condition calls

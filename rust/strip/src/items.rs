@@ -41,8 +41,11 @@ impl Function {
         &tokens[closing(tokens, self.parameters) + 1..end]
     }
 
-    pub fn is_public(&self, tokens: &[Token]) -> bool {
-        tokens[self.visibility] == "pub" && tokens[self.visibility + 1] != "("
+    /// Returns whether users can call it: whether it is public, or a method that a trait declares.
+    pub fn is_for_users(&self, tokens: &[Token]) -> bool {
+        let is_public = tokens[self.visibility] == "pub" && tokens[self.visibility + 1] != "(";
+        let mut traits = (0..self.at).filter(|at| tokens[*at] == "trait");
+        is_public || traits.any(|at| closing(tokens, find(tokens, at, &["{"])) > self.at)
     }
 }
 

@@ -1,21 +1,14 @@
 //! Leaves out items that only Rattle reads: what is marked as ghost, tactics, models, laws, and modules of them; then
-//! contracts, and imports of what is gone. At the end it checks that nothing of Rattle is left.
+//! contracts, and imports of what is gone.
 
-use crate::counters::COUNTERS;
 use crate::items::{
-    Function, elements, function, functions, remove, remove_and_keep_comment, remove_element, start,
-    start_with_attributes,
+    function, functions, remove, remove_and_keep_comment, remove_element, start, start_with_attributes,
 };
+use crate::laws::Names;
 use crate::repository::File;
+use crate::sources::COUNTERS;
 use crate::tokens::{Token, closing, find, words};
-use std::collections::BTreeSet;
 use std::ops::Range;
-
-/// Names of functions or variables.
-pub(crate) type Names = BTreeSet<String>;
-
-/// What only Rattle has.
-const OF_RATTLE: [&str; 7] = ["requires", "ensures", "tactic", "prove", "final", "Model", "Drop"];
 
 /// Leaves out the items, with the modules of these names. Contracts stay until they have been read.
 pub(crate) fn without_items(tokens: &mut Vec<Token>, modules: &[&str], laws: &Names) {
@@ -31,21 +24,6 @@ pub(crate) fn without_items(tokens: &mut Vec<Token>, modules: &[&str], laws: &Na
         } else {
             at += 1;
         }
-    }
-}
-
-/// Returns what a function does that no law does, or `None`.
-pub(crate) fn effect(tokens: &[Token], function: &Function) -> Option<&'static str> {
-    let changes = |element: &Range<usize>| words(&tokens[element.clone()]).contains("& mut ");
-    let is_counter = |element: &Range<usize>| tokens[element.clone()].iter().any(|token| token.is_in(&COUNTERS));
-    if !function.result(tokens).is_empty() {
-        Some("returns something")
-    } else if words(&tokens[function.inside(tokens)]).contains("prove !") {
-        Some("asserts something")
-    } else if elements(tokens, function.parameters).iter().any(|each| changes(each) && !is_counter(each)) {
-        Some("changes something")
-    } else {
-        None
     }
 }
 
@@ -127,24 +105,4 @@ fn words_outside_imports(tokens: &[Token]) -> Names {
         at += 1;
     }
     names
-}
-
-/// Returns an error if code has what only Rattle has, such as a ghost or a call of a law, or a function that does
-/// nothing, because that is a law.
-pub(crate) fn check_rust(tokens: &[Token], laws: &Names) -> Result<(), String> {
-    let is_empty = |each: &Function| tokens[each.body] == "{" && each.inside(tokens).is_empty();
-    if let Some(law) = functions(tokens).iter().find(|each| is_empty(each) && effect(tokens, each).is_none()) {
-        let line = tokens[law.at].line;
-        return Err(format!("{line}: {} does nothing: is it a law that `sources.rs` must list?", law.name(tokens)));
-    }
-    let is_literal = |text: &str| ["\"", "'", "b\"", "b'", "//"].iter().any(|start| text.starts_with(start));
-    let is_of_rattle = |pair: &&[Token]| {
-        let (token, is_call) = (&pair[0], pair[1] == "(");
-        let is_known = token.is_in(&OF_RATTLE) || token.is_in(&COUNTERS) || laws.contains(&token.text) && is_call;
-        is_known || !token.text.is_ascii() && !is_literal(&token.text)
-    };
-    match tokens.windows(2).find(is_of_rattle) {
-        Some(pair) => Err(format!("{}: only Rattle has `{}`", pair[0].line, pair[0].text)),
-        None => Ok(()),
-    }
 }

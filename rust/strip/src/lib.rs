@@ -6,10 +6,11 @@
 //!
 //! 1. When a file is read, `rules` writes what `replacements` lists otherwise, for example `prove!` as `assert!`.
 //! 2. `left_out` leaves out items that only the prover reads, such as ghost items, laws, models and tactics.
-//! 3. `counters` leaves out counters with all that passes them on, and calls of laws.
-//! 4. `additions` writes attributes that a package needs and the crate does not have: `#[inline]` and `#[must_use]`. It
-//!    checks that the documentation says when a function panics.
-//! 5. `left_out` leaves out contracts and imports of what is gone, and refuses each word of Rattle that is left.
+//! 3. `counters` leaves out counters with all that passes them on, and calls of laws, which `laws` knows.
+//! 4. `additions` writes attributes that a package needs and the crate does not have: `#[inline]` and `#[must_use]`.
+//! 5. `left_out` leaves out contracts and imports of what is gone.
+//! 6. `checks` refuses each word of Rattle that is left, and a function whose documentation says nothing of what it
+//!    requires.
 //!
 //! `sources` lists the crates, what is made of each, and the functions that the steps need to know, such as laws. What
 //! no step knows is an error with the file and the line. A rule or a listed name that is for nothing is an error too.
@@ -17,9 +18,11 @@
 #![forbid(unsafe_code)]
 
 mod additions;
+mod checks;
 mod counters;
 mod files;
 mod items;
+mod laws;
 mod left_out;
 mod replacements;
 mod repository;
@@ -110,15 +113,19 @@ fn files_of_sources(repository: &Repository, is_source: impl Fn(&Source) -> bool
 }
 
 /// Returns the code that is made of a file, to whose tokens the rules are applied. An error begins with the line.
-fn translated(file: &File, Repository { laws, pages, .. }: &Repository) -> Result<String, String> {
+fn translated(file: &File, Repository { laws, .. }: &Repository) -> Result<String, String> {
     let mut code = file.tokens.clone();
     left_out::without_items(&mut code, &file.source.modules_left_out(), laws);
-    counters::without_counters(&mut code, laws);
+    counters::without_statements(&mut code, laws);
+    counters::without_elements(&mut code);
     counters::without_counted(&mut code);
-    additions::add(&mut code, file, pages)?;
+    if file.source.is_documented() {
+        checks::check_documentation(&code)?;
+    }
+    additions::add(&mut code, file);
     left_out::without_contracts(&mut code);
     left_out::without_imports(&mut code, file, laws);
-    left_out::check_rust(&code, laws)?;
+    checks::check_rust(&code, laws)?;
     Ok(tokens::print(&code).trim().to_owned() + "\n")
 }
 

@@ -2,14 +2,11 @@
 
 use crate::files::{files_of, read};
 use crate::items::{declared_names, functions};
-use crate::left_out::{Names, effect};
+use crate::laws::{Names, effect};
 use crate::rules::{Rule, lex_and_apply};
 use crate::sources::Source;
 use crate::tokens::Token;
 use std::path::{Path, PathBuf};
-
-/// The pages that name the functions with conditions that a package does not check.
-const PAGES: [&str; 2] = ["rust/cojimuran/CONDITIONS.md", "rust/lexwrite/src/lib.rs"];
 
 /// The sources of all crates, and what is known of them.
 #[derive(Default)]
@@ -17,8 +14,6 @@ pub(crate) struct Repository {
     pub files: Vec<File>,
     /// The laws of all crates.
     pub laws: Names,
-    /// The text of PAGES.
-    pub pages: String,
 }
 
 /// A file of a crate.
@@ -88,12 +83,6 @@ impl Repository {
             }
         }
         let faults: Vec<String> = rules.iter().filter_map(Rule::fault).collect();
-        if !faults.is_empty() {
-            return Err(faults.join("\n"));
-        }
-        for page in PAGES {
-            repository.pages += &read(&top.join(page))?;
-        }
-        Ok(repository)
+        if faults.is_empty() { Ok(repository) } else { Err(faults.join("\n")) }
     }
 }

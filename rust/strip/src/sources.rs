@@ -92,6 +92,13 @@ fn has(list: &str, name: &str) -> bool {
     list.split_whitespace().any(|listed| listed == name)
 }
 
+/// The types of counters, and the names that all variables, parameters and fields of these types have.
+pub(crate) const COUNTERS: [&str; 5] = ["Turns", "Trace", "turns", "loop_turns", "trace"];
+
+/// The functions that the arguments of laws call. They change nothing, so they are left out with the call of the law.
+pub(crate) const WITHOUT_EFFECT: [&str; 6] =
+    ["as_bytes", "as_u64", "exponent_radix", "from", "from_radix", "mantissa_radix"];
+
 /// What the crates of the library are made into.
 const LIBRARY: Source = Source { name: "", package: "cojimuran", module: "", attributes: &[], left_out: "", laws: "" };
 
@@ -107,7 +114,8 @@ message = "`{Self}` is not an integer type that this crate writes",
 note = "it writes `u8` to `u64`, `usize`, `i8` to `i64` and `isize`; `Displayed(&value)` writes what has `Display`")]"#;
 const NOT_UNSIGNED: &str = r#"#[diagnostic::on_unimplemented(
 message = "`{Self}` is not an unsigned integer type that this crate writes",
-note = "a literal needs a type, such as `255u8`; a signed number in a radix is written by `Formatted`")]"#;
+note = "a literal needs a type, such as `255u8`; a signed number in a radix is written by `Formatted`, and one of \
+    128 bits by `Displayed`")]"#;
 const NO_PART: &str = r#"#[diagnostic::on_unimplemented(
 message = "`{Self}` is not a part",
 note = "a value with `Display` is a part as `Displayed(&value)`; a tuple has 2 to 12 members; \

@@ -4,13 +4,19 @@ use crate::repository::{File, Repository};
 use crate::rules::{Rule, lex_and_apply};
 use crate::sources::{SOURCES, Source};
 use crate::tokens::{lex, print, words};
-use crate::{files, translated};
-use std::path::Path;
+use crate::{Files, MADE, files, stale, translated};
+use std::path::{Path, PathBuf};
+use std::{env, fs, process, slice};
+
+/// Returns what is known of a crate.
+fn source(name: &str) -> &'static Source {
+    SOURCES.iter().find(|source| source.name == name).unwrap()
+}
 
 /// Returns what is made of a file of `lexical_write_integer`, in which `in_range`, `fits_bits` and `DECIMAL` are laws.
 fn made(text: &str) -> Result<String, String> {
-    let source = &SOURCES[2];
-    let mut repository = Repository { pages: "`group_digits`".to_owned(), ..Repository::default() };
+    let source = source("lexical_write_integer");
+    let mut repository = Repository::default();
     repository.laws.extend(["in_range", "fits_bits", "DECIMAL"].map(str::to_owned));
     let tokens = lex_and_apply(text, [source.package, source.name, "lexical_write_integer/a.rt"], &mut Rule::all())?;
     translated(&File { source, name: "a.rt".to_owned(), tokens }, &repository)
@@ -89,17 +95,44 @@ fn what_is_left_of_rattle_is_refused() {
     is_refused("fn f() {\n(", "2: nothing closes this `(`");
 }
 
-/// Otherwise what it does would be lost.
-#[test]
-fn a_law_that_does_more_is_refused() {
-    for (law, effect) in [
-        ("fn in_range() -> u8 { 1 }", "returns something"),
-        ("fn in_range() { prove!(a) }", "asserts something"),
-        ("fn in_range(a: &mut u8) {}", "changes something"),
-    ] {
-        let tokens = lex(law).unwrap();
-        assert_eq!(crate::left_out::effect(&tokens, &crate::items::functions(&tokens)[0]), Some(effect));
+/// Makes a folder with these files, and returns it.
+fn folder_with(name: &str, texts: &[(&str, &str)]) -> PathBuf {
+    let folder = env::temp_dir().join(format!("strip-{name}-{}", process::id()));
+    for (path, text) in texts {
+        files::write(&folder.join(path), text).unwrap();
     }
+    folder
+}
+
+/// Otherwise what such a law does would be lost, or a call of its namesake.
+#[test]
+fn a_law_that_does_more_or_has_a_namesake_is_refused() {
+    let tables = *source("lexical_tables");
+    let sources = [Source { name: "a", laws: "law", ..tables }, Source { name: "b", ..tables }];
+    let sources: &[Source] = Box::leak(Box::new(sources));
+    for (number, (a, b, error)) in [
+        ("fn law() -> u8 { 1 }", "", "crates/a/src/lib.rt:1: law is listed as a law, and returns something"),
+        ("fn law() { prove!(a) }", "", "crates/a/src/lib.rt:1: law is listed as a law, and asserts something"),
+        ("fn law(a: &mut u8) {}", "", "crates/a/src/lib.rt:1: law is listed as a law, and changes something"),
+        ("fn law() {}", "fn law() { f() }", "crates/b/src/lib.rt: law is also the name of a law"),
+    ]
+    .into_iter()
+    .enumerate()
+    {
+        let texts = [("crates/a/src/lib.rt", a), ("crates/b/src/lib.rt", b)];
+        let folder = folder_with(&format!("law-{number}"), &texts);
+        assert_eq!(Repository::read(&folder, sources, Vec::new()).err().unwrap(), error);
+        fs::remove_dir_all(folder).unwrap();
+    }
+}
+
+#[test]
+fn a_made_file_without_a_source_is_found() {
+    let made = format!("{MADE}crates/a/src/a.rt.");
+    let texts = [("rust/cojimuran/src/a.rs", &*made), ("rust/lexical_c/src/b.rs", "// Written by hand.")];
+    let folder = folder_with("stale", &texts);
+    assert_eq!(stale(&folder, &Files::new()), Ok(vec![PathBuf::from("rust/cojimuran/src/a.rs")]));
+    fs::remove_dir_all(folder).unwrap();
 }
 
 #[test]
@@ -188,8 +221,8 @@ fn examples_have_the_paths_of_a_user() {
 }
 
 #[test]
-fn a_condition_needs_a_section_panics() {
-    let error = "1: f requires something, but its documentation has no section `# Panics`";
+fn a_condition_needs_a_section() {
+    let error = "1: f requires something, and no section of its documentation says so";
     is_refused("pub fn f() requires { a } { b }", error);
     is_refused("trait T { fn f() requires { a }; }", error);
     becomes(
@@ -198,7 +231,10 @@ fn a_condition_needs_a_section_panics() {
     );
     becomes("fn f() requires { a } { b }", "#[inline] fn f() { b }");
     becomes("#[doc(hidden)] pub fn f() requires { a } { b }", "#[doc(hidden)] #[inline] pub fn f() { b }");
-    becomes("pub fn group_digits() requires some { a } { b }", "#[inline] pub fn group_digits() { b }");
+    becomes(
+        "/// # Not checked\n///\n/// A.\npub fn f() requires { a } { b }",
+        "/// # Not checked\n///\n/// A.\n#[inline] pub fn f() { b }",
+    );
 }
 
 #[test]
@@ -215,10 +251,11 @@ fn top() -> &'static Path {
 #[test]
 fn a_rule_or_a_name_of_a_list_that_is_for_nothing_is_refused() {
     let error = |sources, rules| Repository::read(top(), sources, rules).err().unwrap();
+    let tables = source("lexical_tables");
     let rules = vec![Rule::new("lexical_tables", "gone", "")];
-    assert_eq!(error(&SOURCES[1..2], rules), "lexical_tables: the rule for `gone` matches nothing");
-    const OTHER: &[Source] = &[Source { laws: "digit_to_byte", ..SOURCES[1] }];
-    assert_eq!(error(OTHER, Vec::new()), "lexical_tables: it has no digit_to_byte");
+    assert_eq!(error(slice::from_ref(tables), rules), "lexical_tables: the rule for `gone` matches nothing");
+    let other = Box::leak(Box::new([Source { laws: "gone", ..*tables }]));
+    assert_eq!(error(other, Vec::new()), "lexical_tables: it has no gone");
 }
 
 /// Here each comment and each layout of the crates is another one, and what is made of the code is the same.

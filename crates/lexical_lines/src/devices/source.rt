@@ -52,6 +52,10 @@ pub trait BlockSource: ByteSource {
     /// # Errors
     ///
     /// An error of the device, which is a failure and yields no bytes. Nothing else is a failure.
+    ///
+    /// # Not checked
+    ///
+    /// Rust does not check that the block is not empty. Otherwise the call returns 0, as at the end of the input.
     fn read_block(&mut self, block: &mut [u8]) -> io::Result<usize>
         requires { 1 ≤ length block.old }
         ensures within { IfOk result (λ count. count ≤ length block.new) }

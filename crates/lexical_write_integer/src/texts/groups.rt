@@ -31,6 +31,11 @@ use lexical_num::format::NumberFormat;
 /// # Panics
 ///
 /// If the buffer is [too short](crate::conditions).
+///
+/// # Not checked
+///
+/// Rust checks neither that the count is above 0, nor, if the format has no groups, that the buffer has as many bytes.
+/// Otherwise the call returns the count, and writes nothing.
 pub fn group_digits(count: usize, format: &NumberFormat, buffer: &mut [u8]) -> usize
     requires some { 1 ≤ count }
     requires room { grouped_length format.now.digit_grouping count ≤ length buffer.old }

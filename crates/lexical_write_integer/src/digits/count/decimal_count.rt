@@ -84,6 +84,10 @@ pub fn fast_digit_count(x: u32) -> usize
 
 /// Returns how many decimal digits the number has. The table holds the powers of ten from 10
 /// upwards that fit in the type, in rising order, and nothing else.
+///
+/// # Not checked
+///
+/// Rust does not check what the table holds. With another table the result may be wrong.
 pub fn fallback_digit_count<T: UnsignedInteger>(x: T, table: &[T]) -> usize
     requires { IsPowersOfTen (2 ^ T.BITS) (map T.magnitude table.now) }
     ensures { result ≡ digit_count 10 (T.magnitude x) }

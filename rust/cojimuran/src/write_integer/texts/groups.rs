@@ -28,6 +28,11 @@ use crate::num::format::NumberFormat;
 /// # Panics
 ///
 /// If the buffer is [too short](crate::conditions).
+///
+/// # Not checked
+///
+/// Rust checks neither that the count is above 0, nor, if the format has no groups, that the buffer has as many bytes.
+/// Otherwise the call returns the count, and writes nothing.
 #[inline]
 pub fn group_digits(count: usize, format: &NumberFormat, buffer: &mut [u8]) -> usize {
     let Some((size, mark)) = format.digit_grouping() else {

@@ -28,7 +28,7 @@ impl ToLexical for i8 {
     #[inline(always)]
     #[track_caller]
     fn write_magnitude(self, format: &NumberFormat, buffer: &mut [u8]) -> usize {
-        // The magnitude of the smallest value is 128, which is not an `i8`.
+        // The magnitude of the smallest value, 128, is not an `i8`. The other signed types have such a value too.
         self.unsigned_abs().write_mantissa_signed(format, buffer)
     }
 
@@ -43,7 +43,6 @@ impl ToLexical for i16 {
     #[inline(always)]
     #[track_caller]
     fn write_magnitude(self, format: &NumberFormat, buffer: &mut [u8]) -> usize {
-        // The magnitude of the smallest value is 32,768, which is not an `i16`.
         self.unsigned_abs().write_mantissa_signed(format, buffer)
     }
 

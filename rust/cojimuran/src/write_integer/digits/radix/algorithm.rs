@@ -35,6 +35,10 @@ fn begins_with_pairs(radix: u32, table: &[u8]) -> bool {
 ///
 /// If the radix is not from 2 to 36, or if the table does not begin with the digit pairs of the radix, or if the buffer
 /// is [too short](crate::conditions).
+///
+/// # Not checked
+///
+/// Rust checks only the length and one pair of the table. With a table that is otherwise wrong the digits may be wrong.
 #[inline]
 pub fn algorithm<T: DigitCount>(value: T, radix: u32, table: &[u8], buffer: &mut [u8]) -> usize {
     assert!(

@@ -1,0 +1,59 @@
+//! Laws, which are functions that only prove something, and statements that only call one or record in a counter.
+
+use crate::items::{Function, after_type_arguments, elements};
+use crate::sources::{COUNTERS, WITHOUT_EFFECT};
+use crate::tokens::{Token, opening, words};
+use std::collections::BTreeSet;
+use std::ops::Range;
+
+/// Names of functions or variables.
+pub(crate) type Names = BTreeSet<String>;
+
+/// What a statement that is only a call does not have.
+const EFFECTS: [&str; 5] = ["?", "!", "=", "{", "return"];
+
+/// Returns what a function does that no law does, or `None`.
+pub(crate) fn effect(tokens: &[Token], function: &Function) -> Option<&'static str> {
+    let changes = |element: &Range<usize>| words(&tokens[element.clone()]).contains("& mut ");
+    let is_counter = |element: &Range<usize>| tokens[element.clone()].iter().any(|token| token.is_in(&COUNTERS));
+    if !function.result(tokens).is_empty() {
+        Some("returns something")
+    } else if words(&tokens[function.inside(tokens)]).contains("prove !") {
+        Some("asserts something")
+    } else if elements(tokens, function.parameters).iter().any(|each| changes(each) && !is_counter(each)) {
+        Some("changes something")
+    } else {
+        None
+    }
+}
+
+/// Returns whether a statement, without its `;`, does nothing but to call a law or a method of a counter.
+pub(crate) fn is_for_proofs(statement: &[Token], laws: &Names) -> bool {
+    let Some(name) = callee(statement) else { return false };
+    let is_method_of_counter = name > 1 && statement[name - 1] == "." && statement[name - 2].is_in(&COUNTERS);
+    let is_for_proofs = is_method_of_counter || laws.contains(&statement[name].text);
+    is_for_proofs && !(0..statement.len()).any(|at| has_effect(statement, at, name))
+}
+
+/// Returns the index of the name of what a statement calls, if it is only a call: of `law` in `module::law::<u8>(x)`.
+fn callee(statement: &[Token]) -> Option<usize> {
+    let is_call = *statement.first()? != "." && *statement.last()? == ")";
+    let arguments = opening(statement, if is_call { statement.len() - 1 } else { return None });
+    (0..arguments).find(|at| after_type_arguments(statement, at + 1) == arguments)
+}
+
+/// Returns whether the token at an index does more than the call of the name at the other index.
+fn has_effect(statement: &[Token], at: usize, name: usize) -> bool {
+    statement[at].is_in(&EFFECTS) || changes_a_value(statement, at) || at != name && calls_a_function(statement, at)
+}
+
+/// Returns whether `mut` is at an index, for something that is no counter.
+fn changes_a_value(statement: &[Token], at: usize) -> bool {
+    let named = statement[at + 1..].iter().find(|token| !token.is_in(&["self", "."]));
+    statement[at] == "mut" && !named.is_some_and(|token| token.is_in(&COUNTERS))
+}
+
+/// Returns whether a call of a function that may change something is at an index.
+fn calls_a_function(statement: &[Token], at: usize) -> bool {
+    statement[at].is_word() && statement[at + 1] == "(" && !statement[at].is_in(&WITHOUT_EFFECT)
+}
