@@ -14,7 +14,7 @@ use std::fmt;
 /// ```
 pub type Result<T> = std::result::Result<T, Error>;
 
-/// The first field of a format that is invalid, with the invalid byte.
+/// Why a format is not valid: its first invalid field, with the value of that field.
 ///
 /// ```
 /// use lexical_write_integer::{Error, NumberFormatBuilder};

@@ -45,8 +45,8 @@ pub trait Part: Copy {
     // The condition under which the text is UTF-8: that each byte that the part names is below 128.
     ghost is_utf8: { Self → Type 0 } = { λ _. ⊤ };
 
-    /// Returns a number of bytes that is enough for the text, or `usize::MAX` if that number does not fit in a `usize`.
-    /// The part must be valid.
+    /// Returns the room: a length of a buffer that is always enough for the text, or `usize::MAX` if that length does
+    /// not fit in a `usize`. The part must be valid.
     ///
     /// # Panics
     ///
@@ -173,9 +173,9 @@ pub trait Part: Copy {
     }
 
     /// Writes the text to the start of the buffer, and returns it as a `&str`, which borrows the buffer. Every byte
-    /// after the text is unchanged, which is tested, and not proved. The part must be valid, each [`Byte`](super::Byte)
-    /// in it and each fill byte of a column must be below 128, each [`Bytes`](super::Bytes) in it must be UTF-8, and
-    /// the buffer must have `room` bytes or more.
+    /// after the text is unchanged. The part must be valid, each [`Byte`](super::Byte) in it and each fill byte of a
+    /// column must be below 128, each [`Bytes`](super::Bytes) in it must be UTF-8, and the buffer must have `room`
+    /// bytes or more.
     ///
     /// `std::str::from_utf8` reads the text once to check it if there is a `Displayed`, a reference to a `String` or a
     /// part of your own in it, if a byte or a fill in it is 128 or above, or if the buffer is shorter than the room. It

@@ -33,12 +33,12 @@ pub fn write_time(minutes: u32, time: &mut [u8; 6]) -> usize
     end + copy_to_front(b"Z", &mut time[end..])
 }
 
-/// Returns the hour and the minute, such as `07:05`, which borrow the array. The tuple is in another one.
+/// Returns the hour and the minute, such as `07:05`, as bytes of the array. A tuple can be a member of another one.
 pub fn hour_and_minute(hour: u8, minute: u8, buffer: &mut [u8; 5]) -> &[u8]
     requires hour { hour < 24 }
     requires minute { minute < 60 }
     ensures { (IsPadded 10 2 hour then IsStr ":" then IsPadded 10 2 minute) result.now }
 {
-    let hour = (Padded(hour, 2), ":");
-    (hour, Padded(minute, 2)).to_text(buffer)
+    let before_minute = (Padded(hour, 2), ":");
+    (before_minute, Padded(minute, 2)).to_text(buffer)
 }

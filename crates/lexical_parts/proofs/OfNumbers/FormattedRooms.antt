@@ -55,7 +55,7 @@ sign-unsigned bits required unsigned = grind arith
 pub count_in-is : (r n : ℕ) → 2 ≤ r → n < 2 ^ 64 → count_in r n ≡ digit_count r n
 count_in-is r n two small = grind (arith, length-IsDigits, digits_computed)
 
--- a number with the largest decimal width has no fewer digits in decimal
+-- a number from 10^(width - 1) on has at least `width` decimal digits
 width-le : (width n : ℕ) → 1 ≤ width → 10 ^ (width - 1) ≤ n → width ≤ digit_count 10 n
 width-le width n some full =
     elim (cases_lt (digit_count 10 n) width) [

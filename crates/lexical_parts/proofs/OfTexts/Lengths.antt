@@ -112,7 +112,7 @@ grouped_fixed_length grouping decimals number count good is =
     then_length _ _ count (exactly_length (sign_of number false) _ refl) units
     (is ∙ ap (λ k. length (sign_of number false) + (grouped_length grouping k + (decimals + min decimals 1))) digits)
 
--- a kind of texts that are also of another kind
+-- if each text of kind A is one of kind B, and all texts of kind B have a length, so have those of kind A
 pub length_of_kind : {A B : List ℕ → Type 0} (count : ℕ) → ((text : List ℕ) → A text → B text) → HasLength B count
     → HasLength A count
 length_of_kind count change texts = record { each = λ text is. texts.each text (change text is) }

@@ -23,7 +23,7 @@ use Rattle.lexical_parts.specs.Utf8.{AreUtf8}
 pub one_is_utf8 : (byte : ℕ) → byte < 128 → AreUtf8 (IsExactly (byte ∷ []))
 one_is_utf8 byte small = grind (arith, IsUtf8-from_ascii)
 
--- digits in a radix of at most 36
+-- the digits of a number in a radix of at most 36 are UTF-8
 pub digits_are_utf8 : (r number : ℕ) → r ≤ 36 → AreUtf8 (IsDigits r number)
 digits_are_utf8 r number few = grind (arith, IsUtf8-from_ascii, IsAscii-digit_chars)
 

@@ -25,7 +25,7 @@ use std::fmt;
 pub struct Left<P>(pub P, pub usize, pub u8);
 
 impl<P: Part> Part for Left<P> {
-    // `Right` and `Center` have the same members, since the toolchain takes no `impl` that a macro writes.
+    // `Right` and `Center` have the same members, because `rt ci` refuses an `impl` that a macro of ours writes.
     ghost is_text = { λ part. IsAtLeft part.1 part.2 (P.is_text part.0) };
 
     ghost is_valid = { λ part. P.is_valid part.0 };
@@ -135,7 +135,7 @@ impl<P: Show> Show for Right<P> {
 }
 
 /// A part in the centre of a column: a byte, often a space, is added before and after its text, up to
-/// the width. Of an odd number of bytes one more is after the text than before it, as with `{:^6}`:
+/// the width. If their number is odd, the last one is after the text, as with `{:^6}`:
 /// `Center(Decimal(-12), 6, b'*')` writes `*-12**`. Nothing is added to a text longer than the width,
 /// which counts bytes and not characters. Its room is the width or that of the part, whichever is larger.
 /// In a `&str`, a `String` or a format string that byte must be below 128.

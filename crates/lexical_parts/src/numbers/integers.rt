@@ -11,8 +11,8 @@ use crate::numbers::decimal::Decimal;
 use crate::part::Part;
 use crate::sealed::Sealed;
 
-// Each type has its own `impl`: a generic one would also be one for `&str` and tuples, and the toolchain takes none
-// that a macro writes.
+// Each type has its own `impl`: a generic one would also be one for `&str` and tuples, and `rt ci` refuses one that a
+// macro of ours writes.
 impl Part for u8 {
     ghost is_text = { λ number. IsDecimal (pos number) };
 

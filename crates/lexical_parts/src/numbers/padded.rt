@@ -35,8 +35,10 @@ fn has_few_bits(number: u64, radix: u32, width: usize) -> bool
 }
 
 /// The digits of an unsigned number in a radix from 2 to 36, with leading zeros up to the width:
-/// `PaddedDigits(16, 1u8, 2)` writes `01`. The number must be below `radix.pow(width)`, and a literal needs a type. Its
-/// room is the width. `room` and `text_len` do not check that the number fits.
+/// `PaddedDigits(16, 1u8, 2)` writes `01`.
+///
+/// The number must be below `radix.pow(width)`, and a literal needs a type. Its room is the width. `room` and
+/// `text_len` do not check that the number fits.
 ///
 /// If you name the radix as a constant, your program has only the code of that radix. With `{}`, `append_to` and [a few
 /// other calls](crate::costs#the-code-of-all-radices) rustc may include the code of every radix, which is 60 KB or
@@ -108,9 +110,11 @@ impl<T: DigitCount + Radix> Show for PaddedDigits<T> {
     }
 }
 
-/// An unsigned number in decimal, with leading zeros up to the width: `Padded(3u8, 2)` writes `03`. The number must be
-/// below `10.pow(width)`, and a literal needs a type. Its room is the width. `room` and `text_len` do not check that
-/// the number fits. [`ZeroPadded`](super::super::ZeroPadded) writes every number: `ZeroPadded(123u8, 2)` writes `123`.
+/// An unsigned number in decimal, with leading zeros up to the width: `Padded(3u8, 2)` writes `03`.
+///
+/// The number must be below `10.pow(width)`, and a literal needs a type. Its room is the width. `room` and `text_len`
+/// do not check that the number fits. [`ZeroPadded`](super::super::ZeroPadded) writes every number:
+/// `ZeroPadded(123u8, 2)` writes `123`.
 ///
 /// ```
 /// use lexical_parts::{Padded, Part, ZeroPadded};

@@ -20,7 +20,7 @@ impl<T: Decimal + FormattedSize> ToLexical for T {
 
 impl ToLexical for i8 {
     fn write_magnitude(self, format: &NumberFormat, buffer: &mut [u8]) -> usize {
-        // The magnitude of the smallest value is 128, which is not an `i8`.
+        // The magnitude of the smallest value, 128, is not an `i8`. The other signed types have such a value too.
         self.unsigned_abs().write_mantissa_signed(format, buffer)
     }
 
@@ -31,7 +31,6 @@ impl ToLexical for i8 {
 
 impl ToLexical for i16 {
     fn write_magnitude(self, format: &NumberFormat, buffer: &mut [u8]) -> usize {
-        // The magnitude of the smallest value is 32,768, which is not an `i16`.
         self.unsigned_abs().write_mantissa_signed(format, buffer)
     }
 

@@ -100,7 +100,7 @@ pub trait ToLexical: LexicalInteger + FormattedSize {
     /// mutable slice of the first bytes of the buffer. What the caller then writes to the slice
     /// changes those bytes, and every other byte of the buffer is unchanged.
     ///
-    /// In Rust this call is inlined, so with `opt-level = 3` each one adds 1.7 KB of code.
+    /// rustc inlines this call, so with `opt-level = 3` each one adds 1.7 KB of code.
     ///
     /// # Panics
     ///

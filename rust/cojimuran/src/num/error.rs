@@ -16,7 +16,7 @@ use core::fmt;
 /// ```
 pub type Result<T> = core::result::Result<T, Error>;
 
-/// The first field of a format that is invalid, with the invalid byte.
+/// Why a format is not valid: its first invalid field, with the value of that field.
 ///
 /// ```
 /// use cojimuran::{Error, NumberFormatBuilder};

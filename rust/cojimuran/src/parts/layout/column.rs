@@ -124,7 +124,7 @@ impl<P: Show> Show for Right<P> {
 }
 
 /// A part in the centre of a column: a byte, often a space, is added before and after its text, up to
-/// the width. Of an odd number of bytes one more is after the text than before it, as with `{:^6}`:
+/// the width. If their number is odd, the last one is after the text, as with `{:^6}`:
 /// `Center(Decimal(-12), 6, b'*')` writes `*-12**`. Nothing is added to a text longer than the width,
 /// which counts bytes and not characters. Its room is the width or that of the part, whichever is larger.
 /// In a `&str`, a `String` or a format string that byte must be below 128.

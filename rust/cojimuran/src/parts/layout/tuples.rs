@@ -7,9 +7,9 @@ use crate::parts::part::Part;
 use crate::parts::sealed::Sealed;
 use core::fmt;
 
-// Each length has an `impl` of its own, since the toolchain takes none that a macro writes. A tuple of three members or
-// more does what the pair of its first member and of the tuple of the others does. From eight members on a pattern
-// names them, because that is shorter than their fields.
+// Each length has an `impl` of its own, because `rt ci` refuses one that a macro of ours writes. A tuple of three
+// members or more does what the pair of its first member and of the tuple of the others does. From eight members on a
+// pattern names them, because that is shorter than their fields.
 impl<A: Part, B: Part> Part for (A, B) {
     #[inline(always)]
     #[track_caller]

@@ -5,15 +5,15 @@
 use crate::parts::part::Part;
 use crate::write_integer::padded::write_padded;
 
-/// Writes the length of a part plus `extra` in `width` digits of the radix, and then the part. Returns the length of
-/// the part alone, without the digits before it. For example, `write_with_length("done\n", 16, 4, 4, &mut buffer)`
-/// writes `0009done\n`: the length 5 plus 4, in four digits of radix 16, and then the part. It returns 5. Later bytes
-/// are unchanged. The part must be valid, its room plus `extra` below `radix^width`, and the buffer as long as `width`
-/// and the room.
+/// Writes the length of a part plus `extra` in `width` digits of the radix, and then the part.
+///
+/// Returns the length of the part alone, without the digits before it. Later bytes are unchanged. The part must be
+/// valid, its room plus `extra` below `radix^width`, and the buffer as long as `width` and the room.
 ///
 /// ```
 /// use cojimuran::write_with_length;
 ///
+/// // The length 5 plus 4, in four digits of radix 16, and then the part.
 /// let mut buffer = [0; 9];
 /// assert_eq!(write_with_length("done\n", 16, 4, 4, &mut buffer), 5);
 /// assert_eq!(buffer, *b"0009done\n");

@@ -7,8 +7,8 @@ use crate::parts::numbers::decimal::Decimal;
 use crate::parts::part::Part;
 use crate::parts::sealed::Sealed;
 
-// Each type has its own `impl`: a generic one would also be one for `&str` and tuples, and the toolchain takes none
-// that a macro writes.
+// Each type has its own `impl`: a generic one would also be one for `&str` and tuples, and `rt ci` refuses one that a
+// macro of ours writes.
 impl Part for u8 {
     #[inline(always)]
     #[track_caller]
