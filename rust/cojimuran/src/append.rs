@@ -1,6 +1,6 @@
 //! Parts at the end of a `Vec` or a `String`. This file is written by hand: it only finds the room for what is proved.
 
-use crate::parts::Part;
+use crate::parts::Show;
 use alloc::string::String;
 use alloc::vec::Vec;
 
@@ -30,25 +30,25 @@ use alloc::vec::Vec;
 /// }
 /// assert_eq!(squares, "1;4;9;");
 /// ```
-pub trait Append: Part {
+pub trait Append: Show {
     /// Appends the text to a `Vec<u8>` or a `String`. The part must be valid, and for a `String` its text must be
-    /// UTF-8, as [`to_str`](Part::to_str) says.
+    /// UTF-8, as [`to_str`](crate::Part::to_str) says.
     ///
-    /// A `String` grows by the length of the text, as with `push_str`. So does a `Vec` if the [`room`](Part::room) of
-    /// the part is at most 256 bytes; otherwise the vector must have, or gets, the room. For a `String` a part with a
-    /// larger room is first written to a temporary buffer of that size. [`write_pieces`](crate::Show::write_pieces)
-    /// needs none.
+    /// To a `String` it writes as [`write_pieces`](Show::write_pieces) does, without a buffer. A `Vec` grows by the
+    /// length of the text if the [`room`](crate::Part::room) of the part is at most 256 bytes; otherwise it must have,
+    /// or gets, the room.
     ///
     /// # Panics
     ///
-    /// If the part is not valid, or if the text for a `String` is not UTF-8, or if more than `isize::MAX` bytes would
-    /// be reserved. A `String` is then unchanged, and a `Vec` may have zeros at its end. If there is not enough memory
-    /// for fewer bytes, the process aborts, as it does for `Vec::push`.
+    /// If the part is not valid, or if the text for a `String` is not UTF-8, or if the vector would reserve more than
+    /// `isize::MAX` bytes. A `String` is then unchanged, and a `Vec` may have zeros at its end. If there is not enough
+    /// memory, the process aborts, as it does for `Vec::push`.
     fn append_to<T: AppendTarget>(self, target: &mut T);
 }
 
-impl<P: Part> Append for P {
-    #[inline]
+// With a constant radix in a caller, only what is inlined there has only the code of that radix.
+impl<P: Show> Append for P {
+    #[inline(always)]
     fn append_to<T: AppendTarget>(self, target: &mut T) {
         target.append_part(self);
     }
@@ -69,7 +69,7 @@ impl<P: Part> Append for P {
 /// ```
 pub trait AppendTarget: sealed::Sealed {
     #[doc(hidden)]
-    fn append_part<P: Part>(&mut self, part: P);
+    fn append_part<P: Show>(&mut self, part: P);
 }
 
 mod sealed {
@@ -83,8 +83,8 @@ mod sealed {
 const MOST_AT_ONCE: usize = 256;
 
 impl AppendTarget for Vec<u8> {
-    #[inline]
-    fn append_part<P: Part>(&mut self, part: P) {
+    #[inline(always)]
+    fn append_part<P: Show>(&mut self, part: P) {
         let (start, room) = (self.len(), part.room());
         if room <= MOST_AT_ONCE && self.capacity() - start < room {
             self.extend_from_slice(part.to_text(&mut [0; MOST_AT_ONCE]));
@@ -97,16 +97,13 @@ impl AppendTarget for Vec<u8> {
 }
 
 impl AppendTarget for String {
-    #[inline]
-    fn append_part<P: Part>(&mut self, part: P) {
-        let room = part.room();
-        let (mut array, mut long) = ([0; MOST_AT_ONCE], Vec::new());
-        let buffer = if room <= MOST_AT_ONCE {
-            &mut array[..]
-        } else {
-            long.resize(room, 0);
-            &mut long[..]
-        };
-        self.push_str(part.to_str(buffer));
+    #[inline(always)]
+    #[track_caller]
+    fn append_part<P: Show>(&mut self, part: P) {
+        let start = self.len();
+        if part.write_pieces(self).is_err() {
+            self.truncate(start);
+            panic!("the part is not valid, or the text is not UTF-8");
+        }
     }
 }

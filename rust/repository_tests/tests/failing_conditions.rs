@@ -261,9 +261,8 @@ fn messages(called: &mut Vec<Panicking>) {
             PaddedDigits(16, 256u32, 2).to_text(buffer), write_with_length(Padded(12u8, 1), 10, 1, 0, buffer),
             write_field(Padded(12u8, 1), 0, 1, buffer),
             (1u8, Padded(10u8, 1)).append_to(&mut Vec::new());
-        "more than `isize::MAX` bytes would be reserved", "capacity overflow":
-            Left("", usize::MAX, b' ').append_to(&mut vec![1]),
-            Left("", usize::MAX, b' ').append_to(&mut String::new());
+        "the vector would reserve more than `isize::MAX` bytes", "capacity overflow":
+            Left("", usize::MAX, b' ').append_to(&mut vec![1]);
         "the text for a `String` is not UTF-8", "the text is not UTF-8": not_utf8.append_to(&mut String::new());
         "the text does not have `count` bytes", "the text does not have `count` bytes": write_field("ab", 0, 3, buffer);
         "the text of the part is not UTF-8", "the text is not UTF-8": not_utf8.to_str(buffer),

@@ -60,8 +60,7 @@ fn strings_stay_as_they_are_if_a_part_is_refused() {
     let mut string = String::from("ab");
     assert!(catch_unwind(AssertUnwindSafe(|| Bytes(&[200]).append_to(&mut string))).is_err());
     assert!(catch_unwind(AssertUnwindSafe(|| (1u8, Padded(123u8, 2)).append_to(&mut string))).is_err());
-    let long = [200; 300];
-    assert!(catch_unwind(AssertUnwindSafe(|| Bytes(&long).append_to(&mut string))).is_err());
+    assert!(catch_unwind(AssertUnwindSafe(|| ("cd", 5u8, Bytes(&[200; 300])).append_to(&mut string))).is_err());
     assert_eq!(string, "ab");
 }
 

@@ -21,9 +21,8 @@ use lexical_write_integer::radix::Radix;
 /// The radix comes first, and the number is unsigned. A literal needs a type, because an `i32` is signed:
 /// `Digits(36, 1000u64)`. A signed number in a radix is written by `Formatted`. The room is the number of digits.
 ///
-/// If you name the radix as a constant, your program has only the code of that radix. With `{}`, `append_to` and [a few
-/// other calls](crate::costs#the-code-of-all-radices) rustc may include the code of every radix, which is 60 KB or
-/// more.
+/// If you name the radix as a constant, your program has only the code of that radix. With `{}` and [a few other
+/// calls](crate::costs#the-code-of-all-radices) it has the code of every radix, which is 60 KB or more.
 ///
 /// ```
 /// use lexical_parts::{Digits, Lower, Part};

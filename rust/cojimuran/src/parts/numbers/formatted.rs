@@ -24,9 +24,9 @@ fn largest_magnitude<T: ToLexical>() -> u64 {
 /// `Formatted(1234567, &format)` writes `1,234,567`. Its room is the length of the longest text of the type in the
 /// format: 26 bytes for 64 bits in decimal and groups of three, and at most 128 bytes for every type and format.
 ///
-/// If the format is a constant, your program has only the code of its radix. With `{}`, `append_to` and [a few other
-/// calls](crate::costs#the-code-of-all-radices) rustc may include the code of every radix, which is 60 KB or more, also
-/// if the radix is 10. For groups of decimal digits in a format string, `GroupedFixed(number, 0, &format)` avoids that.
+/// If the format is a constant, your program has only the code of its radix. With `{}` and [a few other
+/// calls](crate::costs#the-code-of-all-radices) it has the code of every radix, which is 60 KB or more, also if the
+/// radix is 10. For groups of decimal digits in a format string, `GroupedFixed(number, 0, &format)` avoids that.
 ///
 /// ```
 /// use cojimuran::{Formatted, Part};

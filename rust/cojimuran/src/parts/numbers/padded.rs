@@ -32,9 +32,8 @@ fn has_few_bits(number: u64, radix: u32, width: usize) -> bool {
 /// The number must be below `radix.pow(width)`, and a literal needs a type. Its room is the width. `room` and
 /// `text_len` do not check that the number fits.
 ///
-/// If you name the radix as a constant, your program has only the code of that radix. With `{}`, `append_to` and [a few
-/// other calls](crate::costs#the-code-of-all-radices) rustc may include the code of every radix, which is 60 KB or
-/// more.
+/// If you name the radix as a constant, your program has only the code of that radix. With `{}` and [a few other
+/// calls](crate::costs#the-code-of-all-radices) it has the code of every radix, which is 60 KB or more.
 ///
 /// ```
 /// use cojimuran::{PaddedDigits, Part};
