@@ -6,12 +6,12 @@
 with_each() {
   for standard in $1; do
     case $standard in
-      *++*) language='c++' own=$CXX other='clang++' flags='-x c++' ;;
-      *) language=c own=$CC other=clang flags=-Wstrict-prototypes ;;
+      *++*) own=$CXX other='clang++' flags='-x c++' ;;
+      *) own=$CC other=clang flags=-Wstrict-prototypes ;;
     esac
     if [ "$own" = "$other" ] || [ -n "$TARGET" ]; then other=''; fi
     for compiler in "$own" $other; do
-      if compiles "$compiler" "$language" "-std=$standard"; then
+      if compiles "$compiler $flags -std=$standard"; then
         "$2" "$compiler $flags -std=$standard"
       else
         echo "left out: $2 as $standard, for want of a $compiler that knows it"
