@@ -1,4 +1,5 @@
-# Tests of the header, which tests/run reads.
+# Tests of the header, which tests/run reads. They need a C compiler, and if there are C++ compilers and clang, they use
+# these too.
 # shellcheck shell=sh disable=SC2086,SC2154
 
 # with_each STANDARDS COMMAND: calls a command with each compiler and each of these standards that it knows, as
@@ -28,101 +29,89 @@ explains_macros() {
   [ -s "$work/macros" ] && fails grep -Evx "LEXICAL_($names)|lexical_(decimal|write|length)" "$work/macros"
 }
 
-# calls STANDARD: prints a call of each function, from C99 and C++98 on of each that the type of the value chooses.
-calls() {
+# list_calls STANDARD: sets the calls of refused.c that a standard has: those of which the type of the value chooses the
+# function, those with a pointer to a format, those with the size of a buffer, two with a radix, and all.
+list_calls() {
+  chosen='DECIMAL WRITE LENGTH' with_format='WRITE LENGTH' with_size='DECIMAL WRITE' with_radix='WRITE LENGTH' others=''
   case $1 in
     c89)
-      printf 'lexical_%s;\n' 'check_format(FORMAT)' 'pad(1, 2, buffer, LENGTH)'
+      chosen='' with_format=CHECK_FORMAT with_size=PAD with_radix='WRITE_OF(u32) LENGTH_OF(u32)'
+      others='CHECK_FORMAT PAD'
       for type in u8 u16 u32 u64 size i8 i16 i32 i64; do
-        printf "lexical_%s_$type(%s);\n" buffer_size FORMAT length '1, FORMAT' decimal '1, buffer, LENGTH' \
-          write '1, FORMAT, buffer, LENGTH'
+        with_format="$with_format WRITE_OF($type) LENGTH_OF($type) BUFFER_SIZE_OF($type)"
+        with_size="$with_size DECIMAL_OF($type) WRITE_OF($type)"
+        others="$others DECIMAL_OF($type) WRITE_OF($type) LENGTH_OF($type) BUFFER_SIZE_OF($type)"
       done ;;
-    *)
-      printf 'lexical_%s;\n' 'decimal(1, buffer, LENGTH)' 'write(1, FORMAT, buffer, LENGTH)' 'length(1, FORMAT)'
-      case $1 in c++*) printf 'lexical_%s;\n' 'write(1, *FORMAT, buffer, LENGTH)' 'length(1, *FORMAT)' ;; esac ;;
+    c++*) chosen="$chosen WRITE_OBJECT LENGTH_OBJECT" with_size="$with_size WRITE_OBJECT" ;;
   esac
+  calls="$chosen $others"
 }
 
-# make_calls COMPILER OLD NEW: writes calls.c, which has each call that has OLD, with NEW in its place, and returns
-# whether there is one. For example, of `make_calls 'cc -std=c11' '(1' '((char)1'` the calls are
-#
-#     used(lexical_decimal((char)1, buffer, 4));
-#     used(lexical_write((char)1, format, buffer, 4));
-#     used(lexical_length((char)1, format));
-make_calls() {
-  calls "${1##*=}" | sed -n "s/lexical.*[)]/used(&)/; s/$2/$3/p" > "$work/calls"
-  cat > "$work/calls.c" <<END
-#include "lexical.h"
-void used(size_t count);
-void calls(const struct lexical_format *format);
-void calls(const struct lexical_format *format) {
-char buffer[4] = "123";
-$(sed 's/FORMAT/format/; s/LENGTH/4/' "$work/calls")
-}
-END
-  [ -s "$work/calls" ]
+# what_is_said COMPILER CALL FLAGS: prints what a compiler says of a call of refused.c. The call is not inlined, so an
+# attribute is that of its function.
+what_is_said() {
+  LC_ALL=C $1 $strict -Wno-error -O1 -fno-inline -I"$crate/include" -DCALL="$2" $3 \
+    -S -o /dev/null "$crate/tests/refused.c" 2>&1
 }
 
-# compile_calls COMPILER FLAG..: compiles calls.c, and leaves in `said` what the compiler says. Calls are not inlined, so
-# an attribute is that of the function.
-compile_calls() {
-  $1 $strict -Wno-error -O1 -fno-inline $2 $3 $4 -I"$crate/include" \
-    -c -o "$work/calls.o" "$work/calls.c" 2> "$work/said"
-  cat "$work/calls.c" "$work/said"
-}
+# says_nothing COMPILER CALLS: whether a compiler compiles the sum of these calls, and says nothing.
+says_nothing() { prints '' what_is_said "$1" "$(printf '%s + ' $2) 0" ''; }
 
-# lines_with WORDS: how many lines of calls.c the compiler has said these words of.
-lines_with() {
-  sed -n "s/.*calls[.]c:\([0-9]*\):[0-9]*:.*\($1\).*/\1/p" "$work/said" | sort -u | wc -l
-}
-
-# says_nothing COMPILER OLD NEW FLAG..: whether the compiler says nothing of these calls.
-says_nothing() {
-  make_calls "$1" "$2" "$3" && compile_calls "$1" "${4-}" "${5-}" "${6-}" && [ ! -s "$work/said" ]
-}
-
-# reports WORDS COMPILER OLD NEW FLAG..: whether the compiler says these words of each of these calls.
+# reports WORDS COMPILER CALLS FLAGS: whether a compiler says these words of each of these calls, which the flags make
+# wrong.
 reports() {
-  make_calls "$2" "$3" "$4" && compile_calls "$2" "${5-}" "${6-}" "${7-}" &&
-    [ "$(lines_with "$1")" -eq "$(wc -l < "$work/calls")" ]
+  [ -n "$3" ] || return
+  for call in $3; do
+    what_is_said "$2" "$call" "$4" > "$work/said"
+    grep -e "$1" "$work/said" || { echo "$call with $4 is not reported:"; cat "$work/said"; return 1; }
+  done
 }
 
-# check_refused COMPILER: valid calls are taken without a word. The functions that a type chooses refuse a char and a
-# bool, and in C++ other characters, and LEXICAL_RADIX refuses constants that are no radix. `true` is a bool in C23, but
-# not for clang 14.
+# check_refused COMPILER: what a compiler says of valid calls, which is nothing, and of values, formats and radices that
+# it must refuse.
 check_refused() {
-  expect "valid calls by $1" says_nothing "$1" used used
+  list_calls "${1##*=}"
+  expect "valid calls by $1" says_nothing "$1" "$calls"
   case ${1##*=} in
-    c89) types= ;;
+    c89) types='' ;;
     c++98) types='char bool wchar_t' ;;
     c++2?) types='char bool wchar_t char16_t char32_t char8_t' ;;
     c++*) types='char bool wchar_t char16_t char32_t' ;;
     *) types='char _Bool' ;;
   esac
+  no_function='error: .*\(not compatible\|deleted\|incomplete\)'
+  for type in $types; do
+    expect "a $type is refused by $1" reports "$no_function" "$1" "$chosen" "-DVALUE=($type)1"
+  done
+  # `true` is a bool in C23, but not for clang 14.
   case $1 in
     clang*) ;;
-    *2x) expect "true is refused by $1" reports . "$1" '(1' '(true' -w -include stdbool.h ;;
+    *2x) expect "true is refused by $1" reports "$no_function" "$1" "$chosen" '-include stdbool.h -DVALUE=true' ;;
   esac
-  for type in $types; do expect "a $type is refused by $1" reports . "$1" '(1' "(($type)1" -w; done
-  case ${1##*=} in
-    c++98) return ;;
-    c++*)
-      cast=
-      expect "{} as a format is refused by $1" reports . "$1" ' FORMAT' ' {}' -w
-      expect "nullptr as a format is refused by $1" reports . "$1" ' FORMAT' ' nullptr' -w ;;
-    *) cast='\&(const struct lexical_format)' ;;
-  esac
+  # C++98 has neither initializers as arguments nor a check of constants.
+  case ${1##*=} in c++98) return ;; esac
   for radix in -1 0 1 37 74 266 4294967306LL; do
-    expect "radix $radix is refused by $1" reports . "$1" ' FORMAT' " ${cast}LEXICAL_RADIX($radix)" -w
+    expect "radix $radix is refused by $1" reports 'error: .*\(negative\|-1\)' "$1" "$with_radix" "-DRADIX=$radix"
   done
+  case ${1##*=} in
+    c++*)
+      for null in '{}' nullptr; do
+        expect "$null as a format is refused by $1" reports 'error: .*\(ambiguous\|deleted\)' "$1" "$with_format" \
+          "-DFORMAT=$null"
+      done ;;
+  esac
 }
 
-# check_attributes COMPILER: by the attributes of the header, a compiler reports calls that break its conditions.
-# Of an unused result of a function that only reads, g++ says that the statement has no effect. Only gcc sees lengths.
+# check_attributes COMPILER: by the attributes of the header, a compiler reports calls that break its conditions. Of an
+# unused result of a function that only reads, g++ says that the statement has no effect. Only gcc sees lengths.
 check_attributes() {
-  expect "no format by $1" reports '[[]-Wnonnull\|is ambiguous' "$1" '\([ (]\)FORMAT' '\1NULL'
-  expect "an unused result by $1" reports '[[]-Wunused-result\|statement has no effect' "$1" used ''
-  case $1 in clang*) ;; *) expect "a length past the array by $1" reports '[[]-Wstringop-overflow' "$1" LENGTH 5 ;; esac
+  list_calls "${1##*=}"
+  expect "no format by $1" reports '[[]-Wnonnull\|is ambiguous' "$1" "$with_format" -DFORMAT=NULL
+  expect "an unused result by $1" reports '[[]-Wunused-result\|statement has no effect' "$1" "$calls" -DUNUSED
+  case $1 in
+    clang*) ;;
+    *) expect "a length past the array by $1" reports '[[]-Wstringop-overflow' "$1" "$with_size" -DSIZE=5 ;;
+  esac
 }
 
 # check_standard COMPILER: header.c, the macros behind the header, and calls that it refuses.
