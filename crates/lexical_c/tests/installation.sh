@@ -1,6 +1,6 @@
 # Tests of make install and make uninstall, of the names of the libraries, of the examples and of the packages, which
 # tests/run reads. `folder` has the installed libraries.
-# shellcheck shell=sh disable=SC2030,SC2031,SC2046,SC2086,SC2154
+# shellcheck shell=sh disable=SC2046,SC2086,SC2154
 
 # refuses WORDS WORD..: whether make says these words and fails, and installs nothing.
 refuses() {
@@ -104,7 +104,7 @@ hides() {
 }
 
 # Whether the flags of pkg-config link the examples, shared and static, also below another prefix.
-links_with_pkg_config() (
+links_with_pkg_config() {
   export PKG_CONFIG_PATH="$folder/pkgconfig"
   cflags=$(pkg-config --cflags lexical_c) static=$(pkg-config --variable=static lexical_c)
   summary=$(sed -n '/^Summary: /{s///p;q;}' "$crate/package/lexical_c.spec")
@@ -114,76 +114,30 @@ links_with_pkg_config() (
     builds_examples $(pkg-config --cflags --libs lexical_c) -Wl,-rpath,"$folder" && builds_examples $cflags $static &&
     hides $CC "$crate/examples/first.c" $cflags $static &&
     hides $CXX -std=c++17 "$crate/examples/example17.cpp" $cflags $static
-)
+}
 
-# Whether CMake finds the package by some versions, ranges and components, and by no other and for no other size of
-# pointers, and builds a program with each of its libraries, and a library that exports nothing of the archive in it.
+# Whether CMake finds the package as tests/cmake/CMakeLists.txt says, and builds a program with each of its libraries,
+# and a library that exports nothing of the archive in it.
 builds_with_cmake() {
-  project=$work/project built=$work/project/build
-  fails grep -r -F "$prefix" "$folder/cmake" && mkdir "$project" && cp "$crate/examples/first.c" "$project" || return
-  # What the project below asks for, and whether it is found.
-  found="1.0: 1
-$version;EXACT: 1
-1.0...2: 1
-1.0.9;EXACT: 0
-0.9: 0
-1.999: 0
-1.999...2: 0
-2.0: 0
-1.0;COMPONENTS;static: 1
-1.0;COMPONENTS;other: 0
-later 1.0...1.9: 1
-later 1.0...1.8: 0
-later 1.0...<1.9: 0
-for another machine: 0"
-  # Version 1.9 of a package with the same rule.
-  : > "$project/laterConfig.cmake"
-  sed "s/(PACKAGE_VERSION $version)/(PACKAGE_VERSION 1.9)/" "$folder/cmake/lexical_c/lexical_cConfigVersion.cmake" \
-    > "$project/laterConfigVersion.cmake"
-  cat > "$project/CMakeLists.txt" <<END
-cmake_minimum_required(VERSION 3.13)
-project(example C)
-foreach(wanted 1.0 "$version;EXACT" 1.0...2 "1.0.9;EXACT" 0.9 1.999 1.999...2 2.0 "1.0;COMPONENTS;static"
-    "1.0;COMPONENTS;other")
-  find_package(lexical_c \${wanted} QUIET)
-  message(STATUS "wanted \${wanted}: \${lexical_c_FOUND}")
-endforeach()
-foreach(wanted 1.0...1.9 1.0...1.8 1.0...<1.9)
-  unset(later_DIR CACHE)
-  find_package(later \${wanted} QUIET PATHS "$project" NO_DEFAULT_PATH)
-  message(STATUS "wanted later \${wanted}: \${later_FOUND}")
-endforeach()
-set(size_of_a_pointer \${CMAKE_SIZEOF_VOID_P})
-set(CMAKE_SIZEOF_VOID_P 2)
-unset(lexical_c_DIR CACHE)
-find_package(lexical_c 1.0 QUIET)
-message(STATUS "wanted for another machine: \${lexical_c_FOUND}")
-set(CMAKE_SIZEOF_VOID_P \${size_of_a_pointer})
-unset(lexical_c_DIR CACHE)
-find_package(lexical_c 1.0 REQUIRED)
-add_library(first SHARED first.c)
-target_link_libraries(first lexical_c::static)
-foreach(kind shared static lexical_c)
-  add_executable(\${kind} first.c)
-  target_link_libraries(\${kind} lexical_c::\${kind})
-endforeach()
-END
-  lexical_c_DIR="$folder/cmake/lexical_c" CC="$CC" cmake -S "$project" -B "$built" > "$work/said" &&
-    prints "$found" sed -n 's/^-- wanted //p' "$work/said" && cmake --build "$built" &&
-    prints 1234567 "$built/shared" && prints 1234567 "$built/static" && prints 1234567 "$built/lexical_c" &&
-    prints main names '-D --defined-only' "$built/libfirst.so" &&
+  built=$work/built_by_cmake installed=$folder/cmake/lexical_c later=$work/later
+  fails grep -r -F "$prefix" "$installed" && mkdir "$later" && : > "$later/laterConfig.cmake" &&
+    sed "s/(PACKAGE_VERSION $version)/(PACKAGE_VERSION 1.9)/" "$installed/lexical_cConfigVersion.cmake" \
+      > "$later/laterConfigVersion.cmake" &&
+    lexical_c_DIR="$installed" later_DIR="$later" CC="$CC" cmake -S "$crate/tests/cmake" -B "$built" &&
+    cmake --build "$built" && prints 1234567 "$built/shared" && prints 1234567 "$built/static" &&
+    prints 1234567 "$built/lexical_c" && prints main names '-D --defined-only' "$built/libfirst.so" &&
     readelf -d "$built/lexical_c" | grep "NEEDED.*\[liblexical_c.so.$major\]"
 }
 
-runs_go() (
+runs_go() {
   export CGO_ENABLED=1 GO111MODULE=off GOFLAGS='' GOCACHE="$work/go" PKG_CONFIG_PATH="$folder/pkgconfig"
   prints "$(printf '%s\n' -4D2 -1234 'invalid format')" \
     env LD_LIBRARY_PATH="$folder" go run "$crate/examples/example.go"
-)
+}
 
 # makes_packages KIND: whether the packages of package/ have what a program needs, which is then linked with them. They
 # have tested the library before. rustup has no compiler for the home of dh.
-makes_packages() (
+makes_packages() {
   unset TMPDIR
   PATH=$(rustc --print sysroot)/bin:$PATH root=$work/package/root
   rm -rf "$work/package" && mkdir -p "$root" && cp -a "$copy" "$work/package/sources" || exit
@@ -201,7 +155,7 @@ makes_packages() (
     ls "$root"/usr/share/man/man3/lexical_decimal_u32.3* &&
     $CC -I"$root/usr/include" -o ../first crates/lexical_c/examples/first.c "$so" &&
     prints 1234567 env LD_LIBRARY_PATH="${so%/*}" ../first
-)
+}
 
 check_installation() {
   version=$(sed -n 's/^#define LEXICAL_VERSION_STRING "\(.*\)"$/\1/p' "$crate/include/lexical.h")
