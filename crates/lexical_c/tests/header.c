@@ -34,7 +34,7 @@ static void check_text(size_t count, const char *wanted)
  * HAS: each function has this type, and in C++11 and later it is known not to throw. RADIX: the format of a radix as an
  * argument. PASSED: a format as an argument, in C++ as an object. NOEXCEPT: whether a call does not throw.
  */
-#if !defined(__cplusplus)
+#ifndef __cplusplus
 #define HAS(function) function;
 #define RADIX(number) &(const struct lexical_format)LEXICAL_RADIX(number)
 #define PASSED(format) &format
@@ -60,10 +60,6 @@ HAS(size_t lexical_terminate(size_t, char *, size_t))
 HAS(uint32_t lexical_version(void))
 HAS(uint32_t lexical_check_format(const struct lexical_format *))
 
-#ifndef __cplusplus
-static const struct lexical_format *const octal_literal = LEXICAL_FORMAT(.radix = 8);
-#endif
-
 /* Zeros, as the header explains them, and the version as a number and as a string. */
 static void check_examples(void)
 {
@@ -74,11 +70,6 @@ static void check_examples(void)
     sprintf(buffer, "%d.%d.%d", LEXICAL_VERSION_MAJOR, LEXICAL_VERSION_MINOR, LEXICAL_VERSION_PATCH);
     check_text(strlen(buffer), LEXICAL_VERSION_STRING);
     check(lexical_version() == LEXICAL_VERSION, "lexical_version");
-#ifndef __cplusplus
-    check_text(lexical_write_u32(48879, RADIX(36), buffer, sizeof buffer), "11PR");
-    check_text(lexical_write_u32(48879, LEXICAL_FORMAT(.radix = 36, .lowercase = 1), buffer, sizeof buffer), "11pr");
-    check(octal_literal->radix == 8 && octal_literal->group_size == 0, "LEXICAL_FORMAT of a static object");
-#endif
 }
 
 /* A call reads the format: a compiler does not take the result of an earlier call with the same pointer. */
@@ -104,7 +95,7 @@ static const struct lexical_format octal = LEXICAL_RADIX(8), binary = LEXICAL_RA
 
 /*
  * A radix that is no constant may have any integer type, is evaluated once, and is valid or becomes 0, whatever a
- * compiler knows of it: in C, a constant object is no constant expression.
+ * compiler knows of it.
  */
 static void check_radices(void)
 {
@@ -116,21 +107,12 @@ static void check_radices(void)
     struct lexical_format base_36 = LEXICAL_RADIX(byte), base_2 = LEXICAL_RADIX(count++);
     struct lexical_format base_great = LEXICAL_RADIX(great), base_negative = LEXICAL_RADIX(negative);
     check(octal.radix == 8 && binary.radix == 2, "a constant radix");
-#if defined(__cplusplus) && __cplusplus < 201103L
-    const struct lexical_format base_99 = LEXICAL_RADIX(99);
-    check(base_99.radix == 0, "a constant radix that C++98 does not refuse");
-#endif
     check(base_36.radix == 36 && base_2.radix == 2 && count == 3, "a variable radix");
     check(base_great.radix == 0 && base_negative.radix == 0, "a radix of more than 32 bits");
     for (count = 0; count < 7; count++) {
         struct lexical_format format = LEXICAL_RADIX(INVALID[count]);
         check(lexical_check_format(&format) == LEXICAL_INVALID_RADIX, "a variable radix that is invalid");
     }
-#ifndef __cplusplus
-    const int constant = 37;
-    struct lexical_format base_37 = LEXICAL_RADIX(constant);
-    check(base_37.radix == 0, "a radix of a constant object");
-#endif
 }
 
 /* Calls of the functions that a type chooses: each returns the length of the text that is now in the buffer. */
@@ -147,7 +129,6 @@ static void check_radices(void)
 
 static void check_choice(void)
 {
-#if defined(__cplusplus) || __STDC_VERSION__ >= 199901L
     static const struct lexical_format HEXADECIMAL = FORMAT(16, 1, 4, '_', 0);
     TRY(unsigned char, -1, "255", "+FF")
     TRY(unsigned short, -1, "65535", "+FFFF")
@@ -163,30 +144,58 @@ static void check_choice(void)
 #if !defined(__cplusplus) || __cplusplus >= 201103L
     TRY(unsigned long long, -1, "18446744073709551615", "+FFFF_FFFF_FFFF_FFFF")
     TRY(long long, -4611686018427387904LL, "-4611686018427387904", "-4000_0000_0000_0000")
+#endif
+}
+
+/* Formats that are written in a call. */
+static void check_unnamed_formats(void)
+{
+#if !defined(__cplusplus) || __cplusplus >= 201103L
     IS(lexical_write(48879, RADIX(16), buffer, sizeof buffer), "BEEF")
     IS(lexical_length(48879, RADIX(16)), "BEEF")
     IS(lexical_write(-1234567, LEXICAL_FORMAT(10, 0, 3, ',', 0, { 0, 0 }), buffer, sizeof buffer), "-1,234,567")
+#endif
 #if !defined(__cplusplus) || __cplusplus >= 202002L
     IS(lexical_write(48879, LEXICAL_FORMAT(.radix = 16), buffer, sizeof buffer), "BEEF")
     IS(lexical_write(1234567, LEXICAL_FORMAT(.radix = 10, .group_size = 3, .mark = '.'), buffer, 128), "1.234.567")
     IS(lexical_length(1234567, LEXICAL_FORMAT(.radix = 10, .group_size = 3, .mark = '.')), "1.234.567")
     check(lexical_write(1, LEXICAL_FORMAT(.radix = 37), buffer, sizeof buffer) == 0, "LEXICAL_FORMAT of no radix");
 #endif
-#if defined(__cplusplus) && __cplusplus >= 201402L
-    lexical_format defaults;
-    defaults.radix = 16;
-    IS(lexical_write(48879, defaults, buffer, sizeof buffer), "BEEF")
-#elif !defined(__cplusplus)
+}
+
+#ifndef __cplusplus
+static const struct lexical_format *const octal_literal = LEXICAL_FORMAT(.radix = 8);
+
+/* What only C has: pointers to unnamed formats, constants that are no constant expressions, and characters as int. */
+static void check_language(void)
+{
+    const int constant = 37;
+    struct lexical_format base_37 = LEXICAL_RADIX(constant);
+    check(base_37.radix == 0, "a radix of a constant object");
+    check(octal_literal->radix == 8 && octal_literal->group_size == 0, "LEXICAL_FORMAT of a static object");
+    check_text(lexical_write_u32(48879, RADIX(36), buffer, sizeof buffer), "11PR");
+    check_text(lexical_write_u32(48879, LEXICAL_FORMAT(.radix = 36, .lowercase = 1), buffer, sizeof buffer), "11pr");
     check_text(lexical_write(1234567, &(const struct lexical_format){ .radix = 10, .group_size = 3, .mark = ',' },
                              buffer, sizeof buffer), "1,234,567");
     check(lexical_length(1234567, &(const struct lexical_format){ .radix = 2, .required_sign = 1 }) == 22, "a literal");
     check_text(lexical_decimal(7, (char *[1]){ buffer }[0], 1), "7");
     check_text(lexical_decimal('x', buffer, sizeof buffer), "120");
     check_text(lexical_decimal(buffer[0] > 0, buffer, sizeof buffer), "1");
-#endif
-#endif
+}
+#else
+/* What only C++ has: in C++98 constants that are not refused, and from C++14 on default values of fields. */
+static void check_language(void)
+{
+#if __cplusplus < 201103L
+    const struct lexical_format base_99 = LEXICAL_RADIX(99);
+    check(base_99.radix == 0, "a constant radix that C++98 does not refuse");
+#elif __cplusplus >= 201402L
+    lexical_format defaults;
+    defaults.radix = 16;
+    IS(lexical_write(48879, defaults, buffer, sizeof buffer), "BEEF")
 #endif
 }
+#endif
 
 int main(void)
 {
@@ -194,5 +203,7 @@ int main(void)
     check_changes();
     check_radices();
     check_choice();
+    check_unnamed_formats();
+    check_language();
     return EXIT_SUCCESS;
 }
