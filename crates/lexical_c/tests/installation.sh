@@ -146,7 +146,8 @@ makes_packages() {
     cp -R crates/lexical_c/package/debian . && dpkg-buildpackage -b -us -uc -d &&
       lintian --allow-root --fail-on error,warning --suppress-tags initial-upload-closes-no-bugs ../*.changes &&
       for file in ../liblexical-c1_*.deb ../liblexical-c-dev_*.deb; do dpkg-deb -x "$file" "$root" || exit; done &&
-      ls "$root/usr/share/doc/liblexical-c-dev/README.Debian"
+      ls "$root/usr/share/doc/liblexical-c-dev/README.Debian" "$root"/usr/share/doc/liblexical-c-dev/README.md* &&
+      mkdir ../autopkgtest && AUTOPKGTEST_TMP=$PWD/../autopkgtest CMAKE_PREFIX_PATH="$root/usr" debian/tests/cmake
   else
     rpmbuild --build-in-place --nodeps -bb -D "_topdir $work/package/rpm" crates/lexical_c/package/lexical_c.spec &&
       for file in ../rpm/RPMS/*/*.rpm; do rpm2archive - < "$file" | tar xzf - -C "$root" || exit; done
@@ -184,6 +185,6 @@ check_installation() {
   expect 'make check' prints 'the static and the shared library have passed' make_c check
   # The packages are built by rustc for this machine, which takes minutes.
   if [ "$builder" != rustc ] || [ -n "$is_quick" ] || [ -n "$TARGET" ]; then return; fi
-  expect_with 'dh dpkg-buildpackage lintian cargo rustfmt' 'the Debian packages' makes_packages deb
+  expect_with 'dh dpkg-buildpackage lintian cargo rustfmt cmake' 'the Debian packages' makes_packages deb
   expect_with rpmbuild 'the RPMs' makes_packages rpm
 }
