@@ -433,8 +433,8 @@ impl<P: Show> InFormats for &InFormat<P> {
 }
 
 macro_rules! check_in_formats {
-    ($v:ident; $($part:expr => $room:expr, $text:expr $(, $field:ident = $value:expr)*;)+) => { $(
-        let $v = Values { $($field: $value,)* ..LONGEST };
+    ($v:ident; $($room:literal, $text:literal => $part:expr $(, where $($field:ident = $value:expr),+)?;)+) => { $(
+        let $v = Values { $($($field: $value,)+)? ..LONGEST };
         _ = $v;
         let expected = [$text.to_owned(), format!("{:*^99}", $text)];
         assert_eq!((&InFormat($part)).texts(), expected, "{{}} of {}", stringify!($part));

@@ -13,8 +13,8 @@ fn has_traits<P: Part + Eq + Hash + Debug + Send + Sync + Unpin + UnwindSafe + R
 
 /// Compares the room of a part, which copies it, and what it writes, with a text of that length.
 macro_rules! check_rooms {
-    ($v:ident; $($part:expr => $room:expr, $text:expr $(, $field:ident = $value:expr)*;)+) => { $(
-        let $v = Values { $($field: $value,)* ..LONGEST };
+    ($v:ident; $($room:literal, $text:literal => $part:expr $(, where $($field:ident = $value:expr),+)?;)+) => { $(
+        let $v = Values { $($($field: $value,)+)? ..LONGEST };
         // Some parts are of no value.
         _ = $v;
         let name = stringify!($part);
@@ -50,17 +50,17 @@ fn rooms_of_parts() {
 #[test]
 fn rooms_of_tuples() {
     check_rooms! { _v;
-        ("a", "b") => 2, "ab";
-        ("a", "b", "c") => 3, "abc";
-        ("a", "b", "c", "d") => 4, "abcd";
-        ("a", "b", "c", "d", "e") => 5, "abcde";
-        ("a", "b", "c", "d", "e", "f") => 6, "abcdef";
-        ("a", "b", "c", "d", "e", "f", "g") => 7, "abcdefg";
-        ("a", "b", "c", "d", "e", "f", "g", "h") => 8, "abcdefgh";
-        ("a", "b", "c", "d", "e", "f", "g", "h", "i") => 9, "abcdefghi";
-        ("a", "b", "c", "d", "e", "f", "g", "h", "i", "j") => 10, "abcdefghij";
-        ("a", "b", "c", "d", "e", "f", "g", "h", "i", "j", "k") => 11, "abcdefghijk";
-        ("a", "b", "c", "d", "e", "f", "g", "h", "i", "j", "k", "l") => 12, "abcdefghijkl";
+        2, "ab" => ("a", "b");
+        3, "abc" => ("a", "b", "c");
+        4, "abcd" => ("a", "b", "c", "d");
+        5, "abcde" => ("a", "b", "c", "d", "e");
+        6, "abcdef" => ("a", "b", "c", "d", "e", "f");
+        7, "abcdefg" => ("a", "b", "c", "d", "e", "f", "g");
+        8, "abcdefgh" => ("a", "b", "c", "d", "e", "f", "g", "h");
+        9, "abcdefghi" => ("a", "b", "c", "d", "e", "f", "g", "h", "i");
+        10, "abcdefghij" => ("a", "b", "c", "d", "e", "f", "g", "h", "i", "j");
+        11, "abcdefghijk" => ("a", "b", "c", "d", "e", "f", "g", "h", "i", "j", "k");
+        12, "abcdefghijkl" => ("a", "b", "c", "d", "e", "f", "g", "h", "i", "j", "k", "l");
     }
 }
 

@@ -78,7 +78,7 @@ fn each_str_is_utf8() {
         let bytes: Vec<u8> = (0..small % 5).map(|_| (random.bits() >> 30) as u8).collect();
         let values = Values { bits, small, width, fill, bytes: &bytes, groups: &groups };
         macro_rules! check_each {
-            ($v:ident; $($part:expr => $room:expr, $text:expr $(, $field:ident = $value:expr)*;)+) => {
+            ($v:ident; $($room:literal, $text:literal => $part:expr $(, where $($field:ident = $value:expr),+)?;)+) => {
                 let $v = values;
                 $(check_in($part, width, fill);)+
             };
