@@ -1,6 +1,7 @@
-//! What the tests of the repository share: what stands for the runtime of Rattle, each part, random numbers, and the
-//! search for names in sources.
+//! What the tests of the repository share: what stands for the runtime of Rattle, each part, parts in format strings,
+//! random numbers, and the search for names in sources.
 
+pub mod formats;
 pub mod names;
 pub mod parts;
 pub mod random;

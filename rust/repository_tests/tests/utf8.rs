@@ -11,9 +11,9 @@ use std::str::from_utf8;
 
 /// A part of a caller, with any bytes.
 #[derive(Clone, Copy)]
-struct Own<'a>(&'a [u8]);
+struct OwnBytes<'a>(&'a [u8]);
 
-impl Part for Own<'_> {
+impl Part for OwnBytes<'_> {
     fn room(self) -> usize {
         self.0.len()
     }
@@ -86,9 +86,9 @@ fn each_str_is_utf8() {
         each_part!(check_each);
         check_in(bits as usize, width, fill);
         check_in(bits as isize, width, fill);
-        check_in(Own(&bytes), width, fill);
-        check_in(Own(b"own"), width, fill);
-        check_in(Own(&[200]), width, fill);
+        check_in(OwnBytes(&bytes), width, fill);
+        check_in(OwnBytes(b"own"), width, fill);
+        check_in(OwnBytes(&[200]), width, fill);
         let text = Buffer::new().format(bits as i64).to_owned();
         assert_eq!(text, (bits as i64).to_string());
     }
@@ -103,17 +103,17 @@ fn bad_bytes_never_become_a_str() {
         assert!(catch_unwind(AssertUnwindSafe(|| part.try_to_str(&mut [b'a'; 200]).map(str::len))).is_err());
     }
     for bytes in [&[200][..], &[0xC3], &[b'a', 0xE2, 0x82], &[0xED, 0xA0, 0x80], &[0xF5]] {
-        panics(Own(bytes));
+        panics(OwnBytes(bytes));
         panics(Bytes(bytes));
-        panics(("id=", Own(bytes), 5u8));
+        panics(("id=", OwnBytes(bytes), 5u8));
         panics((1u8, (2u8, Bytes(bytes), 3u8)));
-        panics(Joined(&[Own(b"a"), Own(bytes)], ","));
-        panics(Some(Own(bytes)));
-        panics(OrElse(None::<u8>, Own(bytes)));
-        panics(Left(Own(bytes), 9, b' '));
+        panics(Joined(&[OwnBytes(b"a"), OwnBytes(bytes)], ","));
+        panics(Some(OwnBytes(bytes)));
+        panics(OrElse(None::<u8>, OwnBytes(bytes)));
+        panics(Left(OwnBytes(bytes), 9, b' '));
         panics(ZeroPadded(Bytes(bytes), 9));
-        panics(Lower(Own(bytes)));
-        panics(Some(&Own(bytes)));
+        panics(Lower(OwnBytes(bytes)));
+        panics(Some(&OwnBytes(bytes)));
     }
     panics(Byte(128));
     panics(Left(5u8, 3, 200));
@@ -121,5 +121,5 @@ fn bad_bytes_never_become_a_str() {
     panics(Center(Hex(5u8), 4, 128));
     // The halves of a character are UTF-8 together.
     assert_eq!((Byte(0xC3), Byte(0xA9)).to_str(&mut [0; 2]), "é");
-    assert_eq!((Own(&[0xC3]), Bytes(&[0xA9])).to_str(&mut [0; 2]), "é");
+    assert_eq!((OwnBytes(&[0xC3]), Bytes(&[0xA9])).to_str(&mut [0; 2]), "é");
 }
