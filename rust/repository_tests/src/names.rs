@@ -1,4 +1,19 @@
-//! The search for names in sources, as whole words: `Hex` is not in `FullHex(5)`.
+//! The sources of the package, and the search for names in them, as whole words: `Hex` is not in `FullHex(5)`.
+
+use std::fs;
+use std::path::{Path, PathBuf};
+
+/// Returns the text of each source of the package.
+pub fn sources() -> Vec<String> {
+    let paths = paths_in(&Path::new(env!("CARGO_MANIFEST_DIR")).join("../cojimuran/src"));
+    paths.iter().map(|path| fs::read_to_string(path).unwrap()).collect()
+}
+
+/// Returns each file in a folder, and in the folders in it.
+fn paths_in(folder: &Path) -> Vec<PathBuf> {
+    let paths = fs::read_dir(folder).unwrap().map(|entry| entry.unwrap().path());
+    paths.flat_map(|path| if path.is_dir() { paths_in(&path) } else { vec![path] }).collect()
+}
 
 /// Returns whether an expression calls a function of this name, or makes a tuple struct of it.
 pub fn calls(expression: &str, name: &str) -> bool {

@@ -1,8 +1,6 @@
-//! Every number of the types of 8 and 16 bits, in every radix, against divisions by the radix. And what no other test
-//! calls: `write_sign` of a required `+`, and `write_padded` to no bytes.
+//! Every number of the types of 8 and 16 bits, in every radix, against divisions by the radix.
 
-use cojimuran::padded::write_padded;
-use cojimuran::{NumberFormatBuilder, Options, ToLexicalWithOptions, write_sign};
+use cojimuran::{NumberFormatBuilder, Options, ToLexicalWithOptions};
 use std::iter::successors;
 
 /// Returns the characters of a number, the last one first.
@@ -39,12 +37,4 @@ fn every_u16() {
 #[test]
 fn every_i16() {
     check(i16::MIN..=i16::MAX);
-}
-
-#[test]
-fn signs_and_no_bytes() {
-    let signed = NumberFormatBuilder::new().required_mantissa_sign(true).build_strict();
-    let mut buffer = [b'?'; 2];
-    assert_eq!((write_sign(5u8, &mut buffer, &signed), buffer), (1, *b"+?"));
-    assert_eq!((write_padded(0u8, 16, &mut []), write_padded(0u8, 10, &mut [])), (0, 0));
 }
