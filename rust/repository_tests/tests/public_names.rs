@@ -1,5 +1,4 @@
-//! The names of the package, and the traits of its types: a caller that takes one does not compile without it. Each
-//! part is in the table of parts that other tests use.
+//! The names of the package, and the traits of its types: a caller that takes one does not compile without it.
 
 #![allow(unused_imports, reason = "what is not there is an error")]
 
@@ -23,7 +22,6 @@ use lexwrite::lines::{
     Answerer, BlockSink, BlockSource, BlockWriter, ByteSink, ByteSource, Reading, SliceSink, SliceSource, Writing,
     answer_lines, answer_reader, answer_slice, answer_stream, join, put_all, run, status, write_joined,
 };
-use repository_tests::names::calls;
 use std::fmt::Debug;
 use std::hash::Hash;
 use std::panic::{RefUnwindSafe, UnwindSafe};
@@ -69,46 +67,4 @@ fn devices() {
     sink::<Writing<Vec<u8>>>();
     bytes::<SliceSource, SliceSink>();
     bytes::<SliceSource, BlockWriter<Writing<Vec<u8>>, 16>>();
-}
-
-#[test]
-fn the_package_needs_no_std() {
-    let root = include_str!("../../cojimuran/src/lib.rs");
-    assert!(root.contains("\n#![no_std]\n") && root.contains("\n#![deny(unsafe_code)]\n"));
-}
-
-/// Returns each module of parts that exports something, and the names that it exports.
-fn exports_of_parts() -> Vec<(&'static str, &'static str)> {
-    let lines = include_str!("../../cojimuran/src/parts.rs").lines();
-    let exports = lines.filter_map(|line| line.strip_prefix("pub use "));
-    exports
-        .inspect(|line| assert!(line.ends_with(';'), "{line} goes on"))
-        .filter_map(|line| line.rsplit_once("::"))
-        .collect()
-}
-
-#[test]
-fn each_part_has_a_row() {
-    let (exports, table) = (exports_of_parts(), include_str!("../src/parts.rs"));
-    let names = exports.iter().flat_map(|(_, names)| names.split(|c: char| !c.is_alphanumeric()));
-    let parts: Vec<&str> = names.filter(|name| name.starts_with(char::is_uppercase)).collect();
-    let has_row = |name: &str| ["Part", "Buffer", "Show", "Shown"].contains(&name) || calls(table, name);
-    let missing: Vec<&&str> = parts.iter().filter(|name| !has_row(name)).collect();
-    assert!(missing.is_empty(), "src/parts.rs has no row for {missing:?}");
-    assert!(parts.len() > 20);
-}
-
-#[test]
-fn each_module_of_parts_has_a_mistake() {
-    let mistakes = include_str!("../../../crates/lexical_parts/mistakes/bodies.edit");
-    let has_mistake = |module: &str| mistakes.contains(&format!("file: src/{}.rt", module.replace("::", "/")));
-    let modules: Vec<&str> = exports_of_parts().into_iter().map(|(module, _)| module).collect();
-    let missing: Vec<&&str> = modules.iter().filter(|module| !has_mistake(module)).collect();
-    assert!(missing.is_empty(), "mistakes/bodies.edit of lexical_parts has no mistake in {missing:?}");
-}
-
-#[test]
-fn each_length_of_a_tuple_has_a_row() {
-    let rows = include_str!("rooms.rs");
-    assert!((2..=12).all(|count| rows.contains(&format!(") => {count}, \""))));
 }
