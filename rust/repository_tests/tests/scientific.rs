@@ -1,11 +1,15 @@
-//! `Scientific` against `{:e}` of the standard library. The sums of the texts are the expected values of the test
-//! `numbers_as_rust_writes_them` in `crates/uses/src/tests/scientific.rt`, which makes the same numbers.
+//! `Scientific` against `{:e}` of the standard library. The test of the same name in
+//! `crates/uses/src/tests/scientific.rt`, which cannot call `{:e}`, makes the same numbers, and compares the sums of
+//! their texts.
 
 use cojimuran::{Part, Scientific};
 use repository_tests::random::Random;
 
 /// How many numbers of each kind there are.
 const ROWS: usize = 10_000;
+
+/// The sums of the texts of all numbers without a sign, with a sign, and of all floats.
+const SUMS: [u64; 3] = [17568205989486067703, 10332201674773152855, 12453350763887842918];
 
 /// Returns a number of any length, of which one in two has zeros at the end.
 fn number(random: &mut Random) -> u64 {
@@ -35,7 +39,7 @@ fn check(part: impl Part, expected: &str, sum: &mut u64) {
 #[test]
 fn numbers_as_rust_writes_them() {
     let random = &mut Random(1);
-    let (mut unsigned_sum, mut signed_sum, mut float_sum) = (0, 0, 0);
+    let [mut unsigned_sum, mut signed_sum, mut float_sum] = [0; 3];
     for _ in 0..ROWS {
         let (unsigned, signed, (digits, exponent)) = (number(random), signed(random), float(random));
         let float: f64 = format!("{digits}e{exponent}").parse().unwrap();
@@ -43,8 +47,13 @@ fn numbers_as_rust_writes_them() {
         check(Scientific(signed, 0), &format!("{signed:e}"), &mut signed_sum);
         check(Scientific(digits, exponent), &format!("{float:e}"), &mut float_sum);
     }
+    assert_eq!([unsigned_sum, signed_sum, float_sum], SUMS);
+}
+
+#[test]
+fn the_proved_test_has_the_same_sums() {
     let there = include_str!("../../../crates/uses/src/tests/scientific.rt");
-    for (name, sum) in [("unsigned", unsigned_sum), ("signed", signed_sum), ("floats", float_sum)] {
-        assert!(there.contains(&format!("check(&rt, {name}, {sum});")), "the sum of {name} is {sum}");
+    for (name, sum) in ["unsigned", "signed", "floats"].iter().zip(SUMS) {
+        assert!(there.contains(&format!("check(&rt, {name}, {sum});")), "{name}");
     }
 }
