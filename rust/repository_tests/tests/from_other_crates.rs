@@ -1,4 +1,5 @@
-//! What FROM_OTHER_CRATES.md of the package says to write. Each text there that is Rust is here too, so it compiles.
+//! What FROM_OTHER_CRATES.md of the package says to write. Each section of the page has a test here, with the code of
+//! its rows in their order. The last test names a row whose code is not here.
 
 #[allow(dead_code, reason = "its main")]
 #[path = "../../cojimuran/examples/number_of_128_bits.rs"]
@@ -11,34 +12,99 @@ use cojimuran::{
 use number_of_128_bits::{format_i128, format_u128};
 use std::io::Write;
 
-const OPTIONS: Options = Options::new();
-const FORMAT: NumberFormat = NumberFormatBuilder::from_radix(36);
-const SIZE: usize = OPTIONS.buffer_size_const::<u64>(&FORMAT);
+#[test]
+fn from_format_and_write() -> std::io::Result<()> {
+    let (number, a, b, cents, float) = (7u32, -1i64, 2i64, 1995u64, 0.5);
+    let (mut file, mut buffer) = (Vec::new(), [0; 64]);
+    assert_eq!(Buffer::new().format(number), number.to_string());
+    let mut text = Buffer::new();
+    let kept = text.format(number);
+    assert_eq!(kept, "7");
 
-#[rustfmt::skip]
-fn push<T: ToLexicalWithOptions<Options = Options>>(value: T, format: &NumberFormat) -> Vec<u8> {
-    let mut buffer = [0; BUFFER_SIZE];
-    value.to_lexical_with_options(&mut buffer, format, &OPTIONS).to_vec()
+    let mut text = String::new();
+    (a, ",", b, "\n").write_pieces(&mut text).unwrap();
+    assert_eq!(text, format!("{a},{b}\n"));
+    file.write_all((a, ",", b, "\n").to_text(&mut buffer))?;
+    write!(file, "{}", Shown((a, ",", b, "\n")))?;
+    assert_eq!(file, b"-1,2\n-1,2\n");
+    text.clear();
+    (Displayed(&format_args!("{float:.2}")), ",", b, "\n").write_pieces(&mut text).unwrap();
+    assert_eq!(text, format!("{float:.2},{b}\n"));
+
+    assert_eq!(ZeroPadded(number, 6).to_str(&mut buffer), format!("{number:06}"));
+    assert_eq!(ZeroPadded(a, 6).to_str(&mut buffer), format!("{a:06}"));
+    assert_eq!(Padded(number, 6).to_str(&mut buffer), format!("{number:06}"));
+    assert_eq!(Right(number, 8, b' ').to_str(&mut buffer), format!("{number:>8}"));
+    assert_eq!(Hex(number).to_str(&mut buffer), format!("{number:X}"));
+    assert_eq!(Lower(Hex(number)).to_str(&mut buffer), format!("{number:x}"));
+    let number = -1i32;
+    assert_eq!(Hex(number as u32).to_str(&mut buffer), format!("{number:X}"));
+    let number = 7u32;
+    assert_eq!(Binary(number).to_str(&mut buffer), format!("{number:b}"));
+    assert_eq!(Digits(8, number).to_str(&mut buffer), format!("{number:o}"));
+    for number in [0, 7, -7] {
+        assert_eq!(Plus(number).to_str(&mut buffer), format!("{number:+}"));
+    }
+    assert_eq!(("0x", Lower(Hex(number))).to_str(&mut buffer), format!("{number:#x}"));
+    assert_eq!(Fixed(cents, 2).to_str(&mut buffer), format!("{}.{:02}", cents / 100, cents % 100));
+    Ok(())
 }
 
-fn length(value: impl ToLexical) -> usize {
-    value.to_lexical(&mut [0; BUFFER_SIZE]).len()
+#[test]
+fn from_itoa() {
+    let (number, a, b) = (7u32, -1i64, 2i64);
+    let (mut output, mut text, mut buffer) = (Vec::new(), String::new(), [0; 64]);
+    assert_eq!(Buffer::new().format(number), "7");
+    output.extend_from_slice(number.to_lexical(&mut buffer));
+    text.push_str((a, ",", b).to_str(&mut buffer));
+    assert_eq!((output, text), (b"7".to_vec(), "-1,2".to_owned()));
+    fn text_of(value: impl ToLexical) -> String {
+        Buffer::new().format(value).to_owned()
+    }
+    assert_eq!((text_of(i8::MIN), text_of(usize::MAX)), (i8::MIN.to_string(), usize::MAX.to_string()));
+    let number = u128::MAX;
+    assert_eq!(Displayed(&number).to_str(&mut buffer), number.to_string());
 }
 
 #[test]
 fn from_lexical_write_integer() {
+    const OPTIONS: Options = Options::new();
     let number = 1000u64;
     let mut buffer = [0; u64::FORMATTED_SIZE_DECIMAL];
     assert_eq!(number.to_lexical(&mut buffer), b"1000");
+    fn length(value: impl ToLexical) -> usize {
+        value.to_lexical(&mut [0; BUFFER_SIZE]).len()
+    }
+    assert_eq!(length(-1i8), 2);
+
+    const FORMAT: NumberFormat = NumberFormatBuilder::from_radix(36);
     let mut buffer = [0; SIZE];
     assert_eq!(number.to_lexical_with_options(&mut buffer, &FORMAT, &OPTIONS), b"RS");
-    assert_eq!((push(-1i8, &FORMAT), length(-1i8)), (b"-1".to_vec(), 2));
+    const SIZE: usize = OPTIONS.buffer_size_const::<u64>(&FORMAT);
+    #[rustfmt::skip]
+    fn push<T: ToLexicalWithOptions<Options = Options>>(value: T, format: &NumberFormat) -> Vec<u8> {
+        value.to_lexical_with_options(&mut [0; BUFFER_SIZE], format, &OPTIONS).to_vec()
+    }
+    assert_eq!(push(-1i8, &FORMAT), b"-1");
     assert_eq!(NumberFormatBuilder::new().radix(37).build().unwrap_err().to_string(), "invalid mantissa radix 37");
     assert_eq!(Lower(Digits(36, number)).to_str(&mut buffer), "rs");
+    let number = i128::MIN;
+    assert_eq!(Displayed(&number).to_str(&mut buffer), number.to_string());
 }
 
 #[test]
-fn a_number_of_128_bits() {
+fn from_num_format_and_radix_fmt() {
+    const THOUSANDS: NumberFormat = NumberFormatBuilder::new().digit_grouping(3, b',').build_strict();
+    let (number, mut buffer) = (1234567u32, [0; 64]);
+    assert_eq!(Formatted(number, &THOUSANDS).to_str(&mut buffer), "1,234,567");
+    assert_eq!(Lower(Digits(36, number)).to_str(&mut buffer), "qglj");
+    assert_eq!(Digits(36, number).to_str(&mut buffer), "QGLJ");
+    let number = -1i64;
+    assert_eq!(Lower(Digits(36, number as u64)).to_str(&mut buffer), "3w5e11264sgsf");
+}
+
+#[test]
+fn numbers_of_128_bits() {
     let ten_19 = 10u128.pow(19);
     let limits = [0, u128::from(u64::MAX), ten_19, ten_19 << 64, ten_19 * ten_19, u128::MAX];
     let near = limits.into_iter().flat_map(|limit| [limit.wrapping_sub(1), limit, limit.wrapping_add(1)]);
@@ -54,93 +120,24 @@ fn a_number_of_128_bits() {
     }
 }
 
-/// The text of a number in generic code, as for `itoa::Integer`.
-fn text_of(value: impl ToLexical) -> String {
-    Buffer::new().format(value).to_owned()
+/// Returns the code on the right of each row of the tables for Rust. A text without these characters is a name.
+fn code_of_rows(page: &str) -> Vec<&str> {
+    let (tables, _) = page.split_once("## From `std::to_chars`").unwrap();
+    let rows = tables.lines().filter(|line| line.starts_with("| "));
+    let cells = rows.map(|row| row.rsplit(" | ").next().unwrap());
+    let texts = cells.flat_map(|cell| cell.split('`').skip(1).step_by(2));
+    texts.filter(|text| text.contains(['(', '[', '='])).collect()
 }
 
 #[test]
-fn from_format() {
-    let (number, a, b, cents, float) = (7u32, -1i64, 2i64, 1995u64, 0.5);
-    let (mut text, mut buffer) = (String::new(), [0; 64]);
-    (a, ",", b, "\n").write_pieces(&mut text).unwrap();
-    (Displayed(&format_args!("{float:.2}")), ",", b, "\n").write_pieces(&mut text).unwrap();
-    assert_eq!(text, format!("{a},{b}\n{float:.2},{b}\n"));
-    assert_eq!(Padded(number, 6).to_str(&mut buffer), format!("{number:06}"));
-    assert_eq!(ZeroPadded(number, 6).to_str(&mut buffer), format!("{number:06}"));
-    assert_eq!(ZeroPadded(a, 6).to_str(&mut buffer), format!("{a:06}"));
-    assert_eq!(Right(number, 8, b' ').to_str(&mut buffer), format!("{number:>8}"));
-    assert_eq!(Hex(number).to_str(&mut buffer), format!("{number:X}"));
-    assert_eq!(Lower(Hex(number)).to_str(&mut buffer), format!("{number:x}"));
-    assert_eq!(("0x", Lower(Hex(number))).to_str(&mut buffer), format!("{number:#x}"));
-    assert_eq!(Binary(number).to_str(&mut buffer), format!("{number:b}"));
-    assert_eq!(Digits(8, number).to_str(&mut buffer), format!("{number:o}"));
-    for number in [0, 7, -7] {
-        assert_eq!(Plus(number).to_str(&mut buffer), format!("{number:+}"));
+fn each_row_has_its_code_here() {
+    let without_spaces = |text: &str| text.split_whitespace().collect::<String>();
+    let here = without_spaces(include_str!("from_other_crates.rs"));
+    let mut rest = here.as_str();
+    let rows = code_of_rows(include_str!("../../cojimuran/FROM_OTHER_CRATES.md"));
+    for code in &rows {
+        let found = rest.split_once(&without_spaces(code));
+        (_, rest) = found.unwrap_or_else(|| panic!("{code} is not here, after the code of the rows above it"));
     }
-    assert_eq!(Fixed(cents, 2).to_str(&mut buffer), format!("{}.{:02}", cents / 100, cents % 100));
-    let number = -1i32;
-    assert_eq!(Hex(number as u32).to_str(&mut buffer), format!("{number:X}"));
-}
-
-const THOUSANDS: NumberFormat = NumberFormatBuilder::new().digit_grouping(3, b',').build_strict();
-
-#[test]
-fn from_num_format_and_radix_fmt() {
-    let (number, mut buffer) = (1234567u32, [0; 64]);
-    assert_eq!(Formatted(number, &THOUSANDS).to_str(&mut buffer), "1,234,567");
-    assert_eq!(Digits(36, number).to_str(&mut buffer), "QGLJ");
-    assert_eq!(Lower(Digits(36, number)).to_str(&mut buffer), "qglj");
-    let number = -1i64;
-    assert_eq!(Lower(Digits(36, number as u64)).to_str(&mut buffer), "3w5e11264sgsf");
-}
-
-/// Writes the same line in two ways.
-fn write_lines(file: &mut impl Write, a: i64, b: i64) -> std::io::Result<()> {
-    let mut buffer = [0; 64];
-    file.write_all((a, ",", b, "\n").to_text(&mut buffer))?;
-    write!(file, "{}", Shown((a, ",", b, "\n")))?;
-    Ok(())
-}
-
-#[test]
-fn to_a_file() {
-    let mut file = Vec::new();
-    write_lines(&mut file, -1, 2).unwrap();
-    assert_eq!(file, b"-1,2\n-1,2\n");
-}
-
-#[test]
-fn a_text_that_is_kept() {
-    let number = 7u32;
-    let mut text = Buffer::new();
-    let kept = text.format(number);
-    assert_eq!(kept, "7");
-}
-
-#[test]
-fn from_itoa() {
-    let (number, a, b) = (7u32, -1i64, 2i64);
-    let (mut output, mut text, mut buffer) = (Vec::new(), String::new(), [0; 64]);
-    assert_eq!(Buffer::new().format(number), "7");
-    assert_eq!((text_of(i8::MIN), text_of(usize::MAX)), (i8::MIN.to_string(), usize::MAX.to_string()));
-    output.extend_from_slice(number.to_lexical(&mut buffer));
-    text.push_str((a, ",", b).to_str(&mut buffer));
-    assert_eq!((output, text), (b"7".to_vec(), "-1,2".to_owned()));
-    let number = u128::MAX;
-    assert_eq!(Displayed(&number).to_str(&mut buffer), number.to_string());
-}
-
-#[test]
-fn each_text_of_the_page_is_here() {
-    let (page, here) = (include_str!("../../cojimuran/FROM_OTHER_CRATES.md"), include_str!("from_other_crates.rs"));
-    let (rows, _) = page.split_once("## From `std::to_chars`").unwrap();
-    let here: String = here.split_whitespace().collect();
-    let cells =
-        rows.lines().filter(|line| line.starts_with("| ")).skip(1).map(|line| line.rsplit(" | ").next().unwrap());
-    let texts: Vec<&str> = cells.flat_map(|cell| cell.split('`').skip(1).step_by(2)).collect();
-    let code = texts.iter().filter(|text| text.contains(['(', '&', '[', '='])).copied();
-    let missing = code.filter(|text| !here.contains(&text.split_whitespace().collect::<String>()));
-    assert_eq!(missing.collect::<Vec<_>>(), Vec::<&str>::new());
-    assert!(texts.len() > 15);
+    assert!(rows.len() > 30, "{}", rows.len());
 }
