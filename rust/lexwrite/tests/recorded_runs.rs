@@ -1,38 +1,33 @@
-//! The recorded runs of the program: their input has the recorded output and exit status.
+//! The recorded runs of the program: their input has the recorded output and exit status. `tests/process` has them and
+//! more, but runs only optimized programs for this machine. These tests add debug builds, and i686 in `tests/packages`.
 
 use std::fs::{self, File};
-use std::path::Path;
-use std::process::Command;
+use std::path::{Path, PathBuf};
+use std::process::{Command, Output, Stdio};
 
-fn check(name: &str) {
-    let folder = Path::new(env!("CARGO_MANIFEST_DIR")).join("../../tests/runs").join(name);
-    let read = |file: &str| fs::read_to_string(folder.join(file)).unwrap_or_else(|error| panic!("{file}: {error}"));
-    let stdin = File::open(folder.join("stdin")).unwrap_or_else(|error| panic!("stdin: {error}"));
-    let run = Command::new(env!("CARGO_BIN_EXE_lexwrite")).stdin(stdin).output().unwrap();
-    assert_eq!(run.status.code(), read("status").trim().parse().ok(), "{name}");
-    assert!(run.stdout == read("stdout").as_bytes(), "{name}: other answers");
+fn folder_of(name: &str) -> PathBuf {
+    Path::new(env!("CARGO_MANIFEST_DIR")).join("../../tests/runs").join(name)
+}
+
+/// Runs the program on a recorded input.
+fn run(name: &str, output: impl Into<Stdio>) -> Output {
+    let input = File::open(folder_of(name).join("stdin")).unwrap();
+    Command::new(env!("CARGO_BIN_EXE_lexwrite")).stdin(input).stdout(output).output().unwrap()
 }
 
 #[test]
-fn valid_lines() {
-    check("good");
-}
-
-#[test]
-fn hostile_lines() {
-    check("hostile");
-}
-
-#[test]
-fn vectors() {
-    check("vectors");
+fn recorded_answers() {
+    for name in ["good", "hostile", "vectors"] {
+        let read = |file| fs::read_to_string(folder_of(name).join(file)).unwrap();
+        let run = run(name, Stdio::piped());
+        assert_eq!(run.status.code(), read("status").trim().parse().ok(), "{name}");
+        assert!(run.stdout == read("stdout").as_bytes(), "{name}: other answers");
+    }
 }
 
 #[test]
 #[cfg(target_os = "linux")]
 fn full_output() {
     let full = File::options().write(true).open("/dev/full").unwrap();
-    let stdin = File::open(Path::new(env!("CARGO_MANIFEST_DIR")).join("../../tests/runs/good/stdin")).unwrap();
-    let status = Command::new(env!("CARGO_BIN_EXE_lexwrite")).stdin(stdin).stdout(full).status().unwrap();
-    assert_eq!(status.code(), Some(2));
+    assert_eq!(run("good", full).status.code(), Some(2));
 }
