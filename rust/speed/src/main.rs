@@ -1,13 +1,12 @@
 //! Measures the package beside the formatting of the standard library, and prints a table:
-//! `cargo run --release -p speed`. With `-- --counts` it counts instructions, with valgrind; with `-- --passes N` it
-//! measures each row N times, and otherwise 200 times.
+//! `cargo run --release -p speed`. With `-- --passes N` it measures each row N times, and otherwise 200 times.
 
 mod cases;
 
 use cases::{Case, Decimal, Hexadecimal, Line, Lowercase, Radix36, TARGETS, is_same, write_all, write_all_by_std};
 use std::hint::black_box;
 use std::io::IsTerminal;
-use std::process::{Command, ExitCode};
+use std::process::ExitCode;
 use std::time::Instant;
 
 /// How many numbers a pass writes.
@@ -81,7 +80,7 @@ fn show_progress(line: &str) {
 /// The columns of the times, as README.md says.
 const COLUMNS: &str = "| text | numbers | to | here, ns | std, ns | ratio |";
 
-fn print_times(count: usize) -> Result<(), String> {
+fn print_times(count: usize) {
     println!("{COLUMNS}\n|---|---|---|---|---|---|");
     for row in rows() {
         for (distribution, name) in DISTRIBUTIONS.iter().enumerate() {
@@ -102,63 +101,25 @@ fn print_times(count: usize) -> Result<(), String> {
             }
         }
     }
-    Ok(())
 }
 
-/// Returns how many instructions a run of this program with these words takes.
-fn instructions(words: [usize; 4]) -> Result<u64, String> {
-    let program = std::env::current_exe().map_err(|error| error.to_string())?;
-    let mut command = Command::new("valgrind");
-    command.args(["--tool=callgrind", "--callgrind-out-file=/dev/null"]).arg(program).arg("--run");
-    let output = command.args(words.map(|word| word.to_string())).output();
-    let output = output.map_err(|error| format!("valgrind: {error}"))?;
-    let text = String::from_utf8_lossy(&output.stderr);
-    let count = text.lines().find_map(|line| line.split_once("Collected : ")).map(|(_, count)| count.trim().parse());
-    count.and_then(Result::ok).ok_or_else(|| format!("valgrind: {text}"))
-}
-
-fn print_counts() -> Result<(), String> {
-    println!("| text | numbers | here, instructions | std, instructions | ratio |\n|---|---|---|---|---|");
-    for (index, row) in rows().iter().enumerate() {
-        for (distribution, name) in DISTRIBUTIONS.iter().enumerate() {
-            show_progress(&format!("counting {}", row.name));
-            let empty = instructions([index, distribution, 2, 0])?;
-            let of = |which: usize| instructions([index, distribution, which, 1]).map(|count| (count - empty) as f64);
-            let ours = of(0)? / COUNT as f64;
-            let std = if row.std.is_some() { Some(of(1)? / COUNT as f64) } else { None };
-            let text = std.map_or("- | -".to_owned(), |std| format!("{std:.0} | {:.2}", ours / std));
-            show_progress("");
-            println!("| {} | {name} | {ours:.0} | {text} |", row.name);
-        }
+/// Returns how many passes these words ask for.
+fn passes(words: &[String]) -> Option<usize> {
+    match words {
+        [] => Some(200),
+        [option, count] if option == "--passes" => count.parse().ok().filter(|count| *count > 0),
+        _ => None,
     }
-    Ok(())
-}
-
-/// Writes the numbers of a distribution to an array: with the package, with the standard library, or not at all.
-fn run(words: &[String]) -> Result<(), String> {
-    let words: Vec<usize> = words.iter().filter_map(|word| word.parse().ok()).collect();
-    let (row, numbers) = (&rows()[words[0]], numbers(words[1]));
-    assert_eq!(numbers.len(), COUNT);
-    let pass = if words[2] == 1 { row.std.unwrap_or(row.ours) } else { row.ours };
-    black_box(pass(0, &numbers[..COUNT * words[3]]));
-    Ok(())
 }
 
 fn main() -> ExitCode {
     let words: Vec<String> = std::env::args().skip(1).collect();
-    let result = match words.iter().map(String::as_str).collect::<Vec<_>>()[..] {
-        [] => print_times(200),
-        ["--passes", count] if count.parse().is_ok_and(|count: usize| count > 0) => {
-            print_times(count.parse().unwrap_or(1))
-        }
-        ["--counts"] => print_counts(),
-        ["--run", _, _, _, _] => run(&words[1..]),
-        _ => Err("use: cargo run --release -p speed [-- --counts | --passes N]".to_owned()),
+    let Some(count) = passes(&words) else {
+        eprintln!("use: cargo run --release -p speed [-- --passes N]");
+        return ExitCode::FAILURE;
     };
-    if let Err(message) = &result {
-        eprintln!("{message}");
-    }
-    ExitCode::from(u8::from(result.is_err()))
+    print_times(count);
+    ExitCode::SUCCESS
 }
 
 #[cfg(test)]
