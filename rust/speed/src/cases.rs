@@ -20,144 +20,73 @@ pub trait Case {
     /// The part with that text.
     fn part(number: u64) -> impl Show;
 
-    /// Writes the text with the standard library. It has none in radix 36.
-    fn write_by_std(number: u64, output: impl Write) -> Option<()>;
+    /// Writes the text with the standard library, if that has it.
+    fn write_by_std(_number: u64, _output: impl Write) -> Option<()> {
+        None
+    }
 
     /// Appends the text to a `String` with the standard library.
-    fn append_by_std(number: u64, text: &mut String) -> Option<()>;
+    fn append_by_std(_number: u64, _text: &mut String) -> Option<()> {
+        None
+    }
 }
 
-pub struct Decimal;
-pub struct Hexadecimal;
-pub struct Lowercase;
-pub struct Radix36;
-pub struct Line;
+/// Makes a case of its name, its room, a call that writes the text, and the part. What `write!` takes for the same text
+/// follows, if the standard library has it.
+macro_rules! case {
+    (
+        $case:ident, $name:literal, $room:expr, |$number:ident, $buffer:ident| $call:expr, $part:expr
+        $(; $($text:tt)+)?
+    ) => {
+        pub struct $case;
+
+        impl Case for $case {
+            const NAME: &str = $name;
+            const ROOM: usize = $room;
+
+            #[inline(always)]
+            fn write($number: u64, $buffer: &mut [u8]) -> usize {
+                $call
+            }
+
+            #[inline(always)]
+            fn part($number: u64) -> impl Show {
+                $part
+            }
+            $(
+                #[inline(always)]
+                fn write_by_std($number: u64, mut output: impl Write) -> Option<()> {
+                    write!(output, $($text)+).ok()
+                }
+
+                #[inline(always)]
+                fn append_by_std($number: u64, text: &mut String) -> Option<()> {
+                    fmt::Write::write_fmt(text, format_args!($($text)+)).ok()
+                }
+            )?
+        }
+    };
+}
 
 const RADIX_16: NumberFormat = NumberFormatBuilder::from_radix(16);
 const RADIX_36: NumberFormat = NumberFormatBuilder::from_radix(36);
 
-impl Case for Decimal {
-    const NAME: &str = "decimal";
-    const ROOM: usize = 20;
-
-    #[inline(always)]
-    fn write(number: u64, buffer: &mut [u8]) -> usize {
-        number.to_lexical(buffer).len()
-    }
-
-    #[inline(always)]
-    fn part(number: u64) -> impl Show {
-        number
-    }
-
-    #[inline(always)]
-    fn write_by_std(number: u64, mut output: impl Write) -> Option<()> {
-        write!(output, "{number}").ok()
-    }
-
-    #[inline(always)]
-    fn append_by_std(number: u64, text: &mut String) -> Option<()> {
-        fmt::Write::write_fmt(text, format_args!("{number}")).ok()
-    }
+#[inline(always)]
+fn to_lexical(number: u64, buffer: &mut [u8], format: &NumberFormat) -> usize {
+    number.to_lexical_with_options(buffer, format, &Options::new()).len()
 }
 
-impl Case for Hexadecimal {
-    const NAME: &str = "radix 16";
-    const ROOM: usize = 16;
-
-    #[inline(always)]
-    fn write(number: u64, buffer: &mut [u8]) -> usize {
-        number.to_lexical_with_options(buffer, &RADIX_16, &Options::new()).len()
-    }
-
-    #[inline(always)]
-    fn part(number: u64) -> impl Show {
-        Hex(number)
-    }
-
-    #[inline(always)]
-    fn write_by_std(number: u64, mut output: impl Write) -> Option<()> {
-        write!(output, "{number:X}").ok()
-    }
-
-    #[inline(always)]
-    fn append_by_std(number: u64, text: &mut String) -> Option<()> {
-        fmt::Write::write_fmt(text, format_args!("{number:X}")).ok()
-    }
+/// Returns a line, of at most 3 + 20 + 9 + 4 + 1 bytes.
+#[inline(always)]
+fn line(number: u64) -> impl Show {
+    ("id=", number, " flags=0x", Hex(number as u16), "\n")
 }
 
-impl Case for Lowercase {
-    const NAME: &str = "radix 16, lowercase";
-    const ROOM: usize = 16;
-
-    #[inline(always)]
-    fn write(number: u64, buffer: &mut [u8]) -> usize {
-        Lower(Hex(number)).write_to(buffer)
-    }
-
-    #[inline(always)]
-    fn part(number: u64) -> impl Show {
-        Lower(Hex(number))
-    }
-
-    #[inline(always)]
-    fn write_by_std(number: u64, mut output: impl Write) -> Option<()> {
-        write!(output, "{number:x}").ok()
-    }
-
-    #[inline(always)]
-    fn append_by_std(number: u64, text: &mut String) -> Option<()> {
-        fmt::Write::write_fmt(text, format_args!("{number:x}")).ok()
-    }
-}
-
-impl Case for Radix36 {
-    const NAME: &str = "radix 36";
-    const ROOM: usize = 13;
-
-    #[inline(always)]
-    fn write(number: u64, buffer: &mut [u8]) -> usize {
-        number.to_lexical_with_options(buffer, &RADIX_36, &Options::new()).len()
-    }
-
-    #[inline(always)]
-    fn part(number: u64) -> impl Show {
-        Digits(36, number)
-    }
-
-    fn write_by_std(_: u64, _: impl Write) -> Option<()> {
-        None
-    }
-
-    fn append_by_std(_: u64, _: &mut String) -> Option<()> {
-        None
-    }
-}
-
-impl Case for Line {
-    const NAME: &str = "`id=N flags=0xN`";
-    const ROOM: usize = 3 + 20 + 9 + 4 + 1;
-
-    #[inline(always)]
-    fn write(number: u64, buffer: &mut [u8]) -> usize {
-        ("id=", number, " flags=0x", Hex(number as u16), "\n").write_to(buffer)
-    }
-
-    #[inline(always)]
-    fn part(number: u64) -> impl Show {
-        ("id=", number, " flags=0x", Hex(number as u16), "\n")
-    }
-
-    #[inline(always)]
-    fn write_by_std(number: u64, mut output: impl Write) -> Option<()> {
-        writeln!(output, "id={number} flags=0x{:X}", number as u16).ok()
-    }
-
-    #[inline(always)]
-    fn append_by_std(number: u64, text: &mut String) -> Option<()> {
-        fmt::Write::write_fmt(text, format_args!("id={number} flags=0x{:X}\n", number as u16)).ok()
-    }
-}
+case! { Decimal, "decimal", 20, |n, b| n.to_lexical(b).len(), n; "{n}" }
+case! { Hexadecimal, "radix 16", 16, |n, b| to_lexical(n, b, &RADIX_16), Hex(n); "{n:X}" }
+case! { Lowercase, "radix 16, lowercase", 16, |n, b| Lower(Hex(n)).write_to(b), Lower(Hex(n)); "{n:x}" }
+case! { Radix36, "radix 36", 13, |n, b| to_lexical(n, b, &RADIX_36), Digits(36, n) }
+case! { Line, "`id=N flags=0xN`", 37, |n, b| line(n).write_to(b), line(n); "id={n} flags=0x{:X}\n", n as u16 }
 
 /// Returns whether the package writes what the standard library writes, if that has such a text.
 pub fn is_same<C: Case>(number: u64) -> bool {
