@@ -11,7 +11,7 @@ use lexical_write_integer as lexical;
 use std::fmt::Write as _;
 use std::hint::black_box;
 use std::io::Write as _;
-use std::process::Command;
+use std::process::{Command, ExitCode};
 use std::time::Instant;
 
 #[allow(dead_code, reason = "it is a program")]
@@ -267,7 +267,7 @@ fn rows_of_numbers() -> Vec<Row> {
     rows.into_iter().map(with_format_into).collect()
 }
 
-/// Adds the method `format_into` of the standard library, which is not stable yet, to the row of a `&str` of any length.
+/// Adds the method `format_into` of std, which is not stable yet, to the row of a `&str` of any length.
 #[cfg(feature = "format_into")]
 fn with_format_into(mut row: Row) -> Row {
     let found = match row.name {
@@ -351,6 +351,7 @@ fn instructions(words: [usize; 4]) -> f64 {
     let run = |count: usize| {
         let mut command = Command::new("valgrind");
         command.args(["--tool=callgrind", "--callgrind-out-file=/dev/null"]).arg(std::env::current_exe().unwrap());
+        command.arg("--run");
         let words = [words[0], words[1], words[2], words[3], count];
         let output = command.args(words.map(|word| word.to_string())).output().expect("valgrind");
         let text = String::from_utf8_lossy(&output.stderr);
@@ -406,15 +407,28 @@ fn print_table(with_instructions: bool) {
     }
 }
 
-fn main() {
-    let words: Vec<usize> = std::env::args().filter_map(|word| word.parse().ok()).collect();
-    if let [row, column, radix, digits, count] = words[..] {
-        let digits = (radix > 0).then_some((radix as u64, digits as u32));
-        println!("{}", loops(&rows()[row])[column](&numbers(digits)[..count]));
-    } else if std::env::args().any(|word| word == "--by-digits") {
-        print_by_digits("a `u64` as bytes", 10, 20);
-        print_by_digits("a `u64` in radix 36, by a constant format", 36, 13);
-    } else {
-        print_table(std::env::args().all(|word| word != "--times"));
+/// Writes numbers with a loop, and prints how many bytes that were: what another process does for `instructions`.
+fn run([row, column, radix, digits, count]: [usize; 5]) {
+    let digits = (radix > 0).then_some((radix as u64, digits as u32));
+    println!("{}", loops(&rows()[row])[column](&numbers(digits)[..count]));
+}
+
+fn main() -> ExitCode {
+    let words: Vec<String> = std::env::args().skip(1).collect();
+    match words.iter().map(String::as_str).collect::<Vec<_>>()[..] {
+        [] => print_table(true),
+        ["--times"] => print_table(false),
+        ["--by-digits"] => {
+            print_by_digits("a `u64` as bytes", 10, 20);
+            print_by_digits("a `u64` in radix 36, by a constant format", 36, 13);
+        }
+        ["--run", row, column, radix, digits, count] => {
+            run([row, column, radix, digits, count].map(|word| word.parse().expect("a number")));
+        }
+        _ => {
+            eprintln!("use: cargo run --release [-- --times | --by-digits]");
+            return ExitCode::FAILURE;
+        }
     }
+    ExitCode::SUCCESS
 }
