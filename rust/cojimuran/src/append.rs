@@ -34,9 +34,9 @@ pub trait Append: Show {
     /// Appends the text to a `Vec<u8>` or a `String`. The part must be valid, and for a `String` its text must be
     /// UTF-8, as [`to_str`](crate::Part::to_str) says.
     ///
-    /// To a `String` it writes as [`write_pieces`](Show::write_pieces) does, without a buffer. A `Vec` grows by the
-    /// length of the text if the [`room`](crate::Part::room) of the part is at most 256 bytes; otherwise it must have,
-    /// or gets, the room.
+    /// If the [`room`](crate::Part::room) of the part is at most 256 bytes, the text is written in one piece, and the
+    /// target grows by its length. Otherwise a `String` gets it in pieces, as by
+    /// [`write_pieces`](Show::write_pieces), and a `Vec` must have, or gets, the room.
     ///
     /// # Panics
     ///
@@ -46,9 +46,10 @@ pub trait Append: Show {
     fn append_to<T: AppendTarget>(self, target: &mut T);
 }
 
-// With a constant radix in a caller, only what is inlined there has only the code of that radix.
+// With a constant radix in a caller, only what is inlined there has only the code of that radix. A debug build would
+// keep the array of each inlined call on the stack.
 impl<P: Show> Append for P {
-    #[inline(always)]
+    #[cfg_attr(not(debug_assertions), inline(always))]
     fn append_to<T: AppendTarget>(self, target: &mut T) {
         target.append_part(self);
     }
@@ -83,7 +84,7 @@ mod sealed {
 const MOST_AT_ONCE: usize = 256;
 
 impl AppendTarget for Vec<u8> {
-    #[inline(always)]
+    #[cfg_attr(not(debug_assertions), inline(always))]
     fn append_part<P: Show>(&mut self, part: P) {
         let (start, room) = (self.len(), part.room());
         if room <= MOST_AT_ONCE && self.capacity() - start < room {
@@ -97,9 +98,13 @@ impl AppendTarget for Vec<u8> {
 }
 
 impl AppendTarget for String {
-    #[inline(always)]
+    #[cfg_attr(not(debug_assertions), inline(always))]
     #[track_caller]
     fn append_part<P: Show>(&mut self, part: P) {
+        if part.room() <= MOST_AT_ONCE {
+            self.push_str(part.to_str(&mut [0; MOST_AT_ONCE]));
+            return;
+        }
         let start = self.len();
         if part.write_pieces(self).is_err() {
             self.truncate(start);
