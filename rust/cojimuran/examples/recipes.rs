@@ -34,19 +34,19 @@ fn main() {
     assert_eq!(bytes.to_str(&mut buffer), "DE:AD:01");
     // A row of CSV at the end of a `String`, or of any other `fmt::Write`.
     let mut csv = String::from("id,name,price,sizes\n");
-    let name = String::from("shoe");
+    let (name, sizes) = (String::from("shoe"), [38u8, 40]);
     let price = Fixed(1999u32, 2);
-    let sizes = Joined(&[38u8, 40], " ");
-    let row = (7u32, ",", name.as_str(), ",", price, ",", sizes);
-    (row, "\n").write_pieces(&mut csv).unwrap();
+    let sizes = Joined(&sizes, " ");
+    let row = (7u32, ",", name.as_str(), ",", price, ",", sizes, "\n");
+    row.write_pieces(&mut csv).unwrap();
     assert_eq!(csv, "id,name,price,sizes\n7,shoe,19.99,38 40\n");
-    // A row with a float.
-    let rated = (row, ",", Displayed(&0.5), "\n");
-    rated.write_pieces(&mut csv).unwrap();
-    assert_eq!(csv.lines().last(), Some("7,shoe,19.99,38 40,0.5"));
-    // The same with the feature `alloc`, without a `Result`.
-    (row, "\n").append_to(&mut csv);
+    // The same with the feature `alloc`.
+    row.append_to(&mut csv);
     assert_eq!(csv.lines().last(), Some("7,shoe,19.99,38 40"));
+    // A row with a float.
+    let rated = (7u32, ",", Displayed(&0.5), "\n");
+    rated.write_pieces(&mut csv).unwrap();
+    assert_eq!(csv.lines().last(), Some("7,0.5"));
     // A line of a log, with a field that may be absent.
     let user = Some(1000u64).map(|user| (" user=", user));
     let time = (Padded(7u8, 2), ":", Padded(5u8, 2));

@@ -14,15 +14,15 @@
 //! | you want | call |
 //! |---|---|
 //! | one decimal number as a `&str` | [`Buffer::new().format(number)`](Buffer::format) |
-//! | a part, such as a tuple, in an array, as a `&str` | [`part.to_str(&mut buffer)`](Part::to_str) |
-//! | the same as bytes | [`part.to_text(&mut buffer)`](Part::to_text) |
-//! | the same in an array that may be too short | [`part.try_to_str(&mut buffer)`](Part::try_to_str) |
-//! | a part in a `String` or any other `fmt::Write` | [`part.write_pieces(&mut text)`](Show::write_pieces) |
+//! | a part, such as a tuple, in a `String` or any other `fmt::Write` | [`part.write_pieces(&mut text)?`](Show::write_pieces) |
 //! | a part at the end of a `String` or a `Vec`, with the feature `alloc` | `part.append_to(&mut text)` of `Append` |
+//! | a part in an array, as a `&str` | [`part.to_str(&mut buffer)`](Part::to_str) |
+//! | a part in an array, as bytes | [`part.to_text(&mut buffer)`](Part::to_text) |
+//! | a part in an array that may be too short | [`part.try_to_str(&mut buffer)`](Part::try_to_str) |
 //! | a part in a format string | [`Shown(part)`](Shown) |
 //!
-//! The array must have [`part.room()`](Part::room) bytes, otherwise the call may panic. [`BUFFER_SIZE`] bytes are
-//! enough for one number in any format.
+//! An array must have [`part.room()`](Part::room) bytes, otherwise `to_str` and `to_text` may panic. So write a text of
+//! unknown length by `write_pieces`, which needs no array. [`BUFFER_SIZE`] bytes are enough for one number in any format.
 //!
 //! A `char`, a `bool`, an `Option` of a part and a reference to a part are also parts, and with the feature `alloc` a
 //! reference to a `String`. This crate has these parts:
@@ -59,9 +59,8 @@
 //!
 //! # What allocates
 //!
-//! Without the feature `alloc` no code of this crate allocates. `append_to` grows its target, and for a `String` it
-//! allocates a temporary buffer if the room is above 256 bytes. `write_pieces` allocates if its writer does, and a
-//! [`Displayed`] if its `Display` does.
+//! Without the feature `alloc` no code of this crate allocates. `append_to` grows its target. `write_pieces` allocates
+//! if its writer does, and a [`Displayed`] if its `Display` does.
 //!
 //! # A `String`, a `Vec`, a format string
 //!
@@ -122,7 +121,7 @@
 //!
 //! # If it does not compile
 //!
-//! Your message may name another call than `to_str`, or say "a part with `Show`".
+//! The message may name another method than `to_str`, or `Show` in place of a part.
 //!
 //! | rustc says | write |
 //! |---|---|
