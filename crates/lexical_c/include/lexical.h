@@ -40,9 +40,8 @@
  * written between groups of digits.
  *
  * Format. `format` points to a struct lexical_format, and must not be NULL. A call only
- * reads it. Invalid values of its fields do not make the behaviour undefined, because each
- * function detects them: lexical_check_format tells which field is invalid, and every other
- * function that takes a format returns 0.
+ * reads it. Invalid values of its fields are safe: lexical_check_format names the first
+ * invalid field, and every other function that takes a format returns 0.
  *
  * Buffer. `buffer` points to `size` bytes that the call may write. The size must not
  * exceed PTRDIFF_MAX. The pointer may be NULL if the size is 0. The buffer must not
@@ -51,8 +50,7 @@
  * outside the buffer, and keeps no pointer to it. Bytes after the text keep their values.
  *
  * Size of the buffer. LEXICAL_BUFFER_SIZE bytes are enough for every number of every
- * type in every format. A terminating NUL needs one byte more. A call is slower if the
- * buffer has fewer than lexical_buffer_size_T(format) bytes, even if the text fits.
+ * type in every format. A terminating NUL needs one byte more.
  *
  * Errors. A call that writes returns the length of the text, without a NUL. A text is never
  * empty, so 0 means an error: the format is invalid or the text does not fit. The buffer is
@@ -147,9 +145,9 @@ LEXICAL_HAS((nothrow, const)) uint32_t lexical_version(void) LEXICAL_NOEXCEPT;
 /* ---- decimal numbers ----------------------------------------------------- */
 
 /*
- * A buffer size that is enough for every result of lexical_decimal_T, without a NUL. For a
- * format with groups or a '+' use LEXICAL_BUFFER_SIZE_U32 and so on, or at run time
- * lexical_buffer_size_T.
+ * A buffer size that is enough for every result of lexical_decimal_T, without a NUL. With
+ * lexical_terminate it must be one byte more. For a format with groups or a '+' use
+ * LEXICAL_BUFFER_SIZE_U32 and so on, or at run time lexical_buffer_size_T.
  */
 #define LEXICAL_BUFFER_SIZE_DECIMAL_U8 3
 #define LEXICAL_BUFFER_SIZE_DECIMAL_U16 5
@@ -206,9 +204,10 @@ size_t lexical_decimal_i64(int64_t value, char *buffer, size_t size) LEXICAL_NOE
  * In C89, and in C++ before C++20, write the fields in their order, { 10, 0, 3, ',' }, or
  * set the fields of a variable.
  *
- * From C++14 on, each field after the radix has the default value 0, so the struct has no
- * trivial default constructor. To clear a format write `format = {}`, because g++ warns of
- * memset. A variable of a union that has a format as a member must be initialized.
+ * From C++14 on, each field after the radix has the default value 0, so the default
+ * constructor is not trivial. To clear a format write `format = {}`, because g++ warns of
+ * memset. Declare a union U that has a format as a member by `U u{};`, because `U u;` does
+ * not compile.
  */
 struct lexical_format {
     /* From 2 to 36. */
@@ -234,14 +233,14 @@ struct lexical_format {
  * In C99 and later it is a pointer to an unnamed constant, which exists until the end of
  * the block in which you write it.
  *
- * In C++ it is the format itself, because a pointer to a temporary object could outlive
- * the object. So only lexical_write and lexical_length take it. C++20 has the names of
- * fields. In C++11 to C++17 write the fields in their order: LEXICAL_FORMAT(10, 0, 3, ',').
- * A field that is a variable should be a uint32_t: an int would be narrowed, which clang
- * refuses and g++ warns of.
+ * In C++ it is a format and not a pointer, because a pointer to a temporary object could
+ * outlive the object. So only lexical_write and lexical_length take it. C++20 has the names
+ * of fields. In C++11 to C++17 write the fields in their order, as in
+ * LEXICAL_FORMAT(10, 0, 3, ','). Pass a variable as a uint32_t: clang refuses an int, and
+ * g++ warns of it.
  *
- * C89 and C++98 do not have this macro. Unlike with LEXICAL_RADIX, the radix is not checked
- * when you compile.
+ * C89 and C++98 do not have this macro. It does not check the radix when you compile, as
+ * LEXICAL_RADIX does.
  */
 #if defined(__cplusplus)
 #if __cplusplus >= 201103L
@@ -253,7 +252,7 @@ struct lexical_format {
 
 /*
  * LEXICAL_RADIX: an initializer for a format with this radix, in uppercase, with no '+' and
- * no groups.
+ * no groups. In C it is not an argument.
  *
  *     const struct lexical_format hexadecimal = LEXICAL_RADIX(16);
  *
@@ -277,8 +276,8 @@ struct lexical_format {
 LEXICAL_HAS((visibility("hidden")))
 inline constexpr lexical_format lexical_standard_format = LEXICAL_STANDARD_FORMAT;
 #elif defined(__GNUC__)
-/* One object in each program and in each shared library, and none is exported. A C inline
-   function may use it. */
+/* One object in each program and in each shared library, which is not exported. It is weak,
+   and not static, so that a C inline function may use it. */
 extern __attribute__((weak, visibility("hidden"))) const struct lexical_format lexical_standard_format;
 const struct lexical_format lexical_standard_format = LEXICAL_STANDARD_FORMAT;
 #else
@@ -302,7 +301,7 @@ uint32_t lexical_check_format(const struct lexical_format *format) LEXICAL_NOEXC
 /* ---- sizes --------------------------------------------------------------- */
 
 /* A buffer size, in bytes, that is enough for every number of every type in
-   every format. */
+   every format, without a NUL. */
 #define LEXICAL_BUFFER_SIZE 128
 
 /* A buffer size that is enough for every number of one type in every format. */
@@ -427,7 +426,8 @@ size_t lexical_write_i64(int64_t value, const struct lexical_format *format,
 /*
  * lexical_pad: inserts zeros into a text, after its sign, until it has `width` bytes.
  *
- *     count   the length of the text at `buffer`, or 0 after an error
+ *     count   the length of the text at `buffer`, which another call has written, or 0 after
+ *             an error
  *     width   the minimum length of the text; a longer text stays as it is
  *     buffer  where the text begins
  *     size    the size of the buffer in bytes
