@@ -1,5 +1,5 @@
-//! Writes integers as text into a buffer that you supply, in every radix from 2 to 36, and whole lines of numbers and
-//! texts.
+//! Writes integers in any radix from 2 to 36, and whole lines of numbers and strings, into a `String`, an array or any
+//! other writer.
 //!
 //! ```
 #![doc = include_str!("../examples/first_program.rs")]
@@ -44,8 +44,8 @@
 //! Most programs need nothing else. The other items mirror the crate `lexical-write-integer`, so that a program can
 //! move from that crate: [`ToLexical`] writes bytes in decimal, [`ToLexicalWithOptions`] does so in a [`NumberFormat`],
 //! and the modules have the writers of digits without a sign. [`Options`] has no fields, and is there only for
-//! compatibility. [`compact::Compact`] is for small programs, [`padded::write_padded`] fills a buffer with a number, and
-//! [`group_digits`] and [`write_sign`] are for writers of your own.
+//! compatibility. [`compact::Compact`] adds little code and is slower, [`padded::write_padded`] fills a buffer with a
+//! number, and [`group_digits`] and [`write_sign`] are for writers of your own.
 //!
 //! These pages have the details: [how large a buffer must be](buffers), [when calls panic](conditions), [what they
 //! cost](costs), and [what to write in place of another crate or `format!`](from_other_crates).

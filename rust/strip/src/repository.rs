@@ -34,10 +34,12 @@ impl File {
         Ok(File { source, name, tokens: tokens.map_err(|what| format!("{}:{what}", path.display()))? })
     }
 
-    /// Returns what a list can name: the file, its module, and each of its words, alone or as `FILE:NAME`.
+    /// Returns what a list can name: the file, its module, and what it declares, alone or as `FILE:NAME`.
     fn names_for_lists(&self) -> impl Iterator<Item = String> {
-        let words = self.tokens.iter().flat_map(|token| [token.text.clone(), format!("{}:{}", self.name, token.text)]);
-        words.chain([self.name.clone(), self.name.trim_end_matches(".rt").to_owned()])
+        let declares = |pair: &&[Token]| pair[0].is_in(&["fn", "const", "struct", "enum", "trait"]);
+        let declared = self.tokens.windows(2).filter(declares).map(|pair| &pair[1].text);
+        let names = declared.flat_map(|name| [name.clone(), format!("{}:{name}", self.name)]);
+        names.chain([self.name.clone(), self.name.trim_end_matches(".rt").to_owned()])
     }
 
     /// Returns an error if a function that is listed as a law does more than a law, because that would be lost.
