@@ -236,8 +236,8 @@ struct lexical_format {
  * In C++ it is a format and not a pointer, because a pointer to a temporary object could
  * outlive the object. So only lexical_write and lexical_length take it. C++20 has the names
  * of fields. In C++11 to C++17 write the fields in their order, as in
- * LEXICAL_FORMAT(10, 0, 3, ','). Pass a variable as a uint32_t: clang refuses an int, and
- * g++ warns of it.
+ * LEXICAL_FORMAT(10, 0, 3, ','). Cast an int variable to uint32_t: otherwise clang
+ * refuses it, and g++ warns of it.
  *
  * C89 and C++98 do not have this macro. It does not check the radix when you compile, as
  * LEXICAL_RADIX does.
@@ -317,8 +317,8 @@ uint32_t lexical_check_format(const struct lexical_format *format) LEXICAL_NOEXC
 
 /*
  * lexical_buffer_size_T: returns a buffer size that is enough for every number of the
- * type in the format, with its sign and its separators. With a buffer of this size,
- * lexical_write_T never returns 0 for this format. It is a bound: in radix 10 at most 2
+ * type in the format, with its sign and its separators. If the format is valid,
+ * lexical_write_T never returns 0 with a buffer of this size. It is a bound: in radix 10 at most 2
  * bytes more than the longest text, and in other radices the constant for the type, such as
  * LEXICAL_BUFFER_SIZE_U32. The exact length of the longest text is
  * lexical_length_u32(UINT32_MAX, format), and for a signed type
