@@ -1,5 +1,5 @@
-//! What is refused in the code that is made: what only Rattle has, laws that are not listed, and conditions of which the
-//! documentation says nothing.
+//! What is refused in the code that is made: what only Rattle has, laws that are not listed, and conditions of which
+//! the documentation says nothing.
 
 use crate::items::{Function, functions};
 use crate::laws::{Names, effect};
@@ -29,8 +29,8 @@ pub(crate) fn check_rust(tokens: &[Token], laws: &Names) -> Result<(), String> {
     }
 }
 
-/// Returns an error if a function for users requires something, and no section of its documentation says what becomes of
-/// a call without it. In Rattle no such call compiles. What is hidden has no documentation.
+/// Returns an error if a function for users requires something, and no section of its documentation says what becomes
+/// of a call without it. In Rattle no such call compiles. What is hidden has no documentation.
 pub(crate) fn check_documentation(tokens: &[Token]) -> Result<(), String> {
     let requires = |each: &Function| each.clauses.iter().any(|clause| tokens[clause.start] == "requires");
     for function in functions(tokens).iter().filter(|each| requires(each) && each.is_for_users(tokens)) {
