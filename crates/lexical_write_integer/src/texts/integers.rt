@@ -1,7 +1,6 @@
 //! The implementations of the writing traits for the ten integer types.
 
 use super::to_lexical::{ToLexical, ToLexicalWithOptions};
-use crate::digits::count::DigitCount;
 use crate::digits::decimal::Decimal;
 use crate::digits::write::WriteInteger;
 use lexical_num::constants::FormattedSize;
@@ -13,8 +12,8 @@ impl<T: Decimal + FormattedSize> ToLexical for T {
         self.write_mantissa(format, buffer)
     }
 
-    fn magnitude_digits(self, radix: u32) -> usize {
-        self.digit_count(radix)
+    fn absolute_value(self) -> u64 {
+        self.as_u64()
     }
 }
 
@@ -24,8 +23,8 @@ impl ToLexical for i8 {
         self.unsigned_abs().write_mantissa_signed(format, buffer)
     }
 
-    fn magnitude_digits(self, radix: u32) -> usize {
-        self.unsigned_abs().digit_count(radix)
+    fn absolute_value(self) -> u64 {
+        u64::from(self.unsigned_abs())
     }
 }
 
@@ -34,8 +33,8 @@ impl ToLexical for i16 {
         self.unsigned_abs().write_mantissa_signed(format, buffer)
     }
 
-    fn magnitude_digits(self, radix: u32) -> usize {
-        self.unsigned_abs().digit_count(radix)
+    fn absolute_value(self) -> u64 {
+        u64::from(self.unsigned_abs())
     }
 }
 
@@ -44,8 +43,8 @@ impl ToLexical for i32 {
         self.unsigned_abs().write_mantissa_signed(format, buffer)
     }
 
-    fn magnitude_digits(self, radix: u32) -> usize {
-        self.unsigned_abs().digit_count(radix)
+    fn absolute_value(self) -> u64 {
+        u64::from(self.unsigned_abs())
     }
 }
 
@@ -54,8 +53,8 @@ impl ToLexical for i64 {
         self.unsigned_abs().write_mantissa_signed(format, buffer)
     }
 
-    fn magnitude_digits(self, radix: u32) -> usize {
-        self.unsigned_abs().digit_count(radix)
+    fn absolute_value(self) -> u64 {
+        self.unsigned_abs()
     }
 }
 
@@ -64,8 +63,8 @@ impl ToLexical for isize {
         self.unsigned_abs().write_mantissa_signed(format, buffer)
     }
 
-    fn magnitude_digits(self, radix: u32) -> usize {
-        self.unsigned_abs().digit_count(radix)
+    fn absolute_value(self) -> u64 {
+        self.unsigned_abs() as u64
     }
 }
 

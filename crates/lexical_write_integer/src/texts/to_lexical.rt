@@ -13,6 +13,7 @@ ghost use Rattle.lexical_write_integer.specs.Text.{IsText, digits_need, need};
 
 use super::groups::group_digits;
 use crate::buffer::front_mut;
+use crate::digits::count::DigitCount;
 use crate::laws::size_suffices;
 use lexical_num::constants::FormattedSize;
 use lexical_num::format::{NumberFormat, STANDARD};
@@ -59,15 +60,23 @@ pub trait ToLexical: LexicalInteger + FormattedSize {
         ensures digits { WritesDigits format.now.mantissa_radix (unsigned_abs (Self.number self))
             buffer.old buffer.new result };
 
+    /// Returns the absolute value of the number.
+    #[doc(hidden)]
+    fn absolute_value(self) -> u64
+        ensures { result ≡ unsigned_abs (Self.number self) };
+
     /// Returns the number of digits of the absolute value in the radix, which is from 2 to 36.
     ///
     /// # Panics
     ///
     /// If the radix is not from 2 to 36.
     #[doc(hidden)]
-    fn magnitude_digits(self, radix: u32) -> usize
+    final fn magnitude_digits(self, radix: u32) -> usize
         requires { IsRadix radix }
-        ensures { result ≡ digit_count radix (unsigned_abs (Self.number self)) };
+        ensures { result ≡ digit_count radix (unsigned_abs (Self.number self)) }
+    {
+        self.absolute_value().digit_count(radix)
+    }
 
     /// Writes the number in the format to the start of the buffer, and returns the length of its text.
     /// Every byte after the text is unchanged. The buffer must have room for the number of bytes that

@@ -6,7 +6,6 @@ use super::to_lexical::{ToLexical, ToLexicalWithOptions};
 use crate::num::constants::FormattedSize;
 use crate::num::format::NumberFormat;
 use crate::num::options::Options;
-use crate::write_integer::digits::count::DigitCount;
 use crate::write_integer::digits::decimal::Decimal;
 use crate::write_integer::digits::write::WriteInteger;
 
@@ -19,8 +18,8 @@ impl<T: Decimal + FormattedSize> ToLexical for T {
 
     #[inline(always)]
     #[track_caller]
-    fn magnitude_digits(self, radix: u32) -> usize {
-        self.digit_count(radix)
+    fn absolute_value(self) -> u64 {
+        self.as_u64()
     }
 }
 
@@ -34,8 +33,8 @@ impl ToLexical for i8 {
 
     #[inline(always)]
     #[track_caller]
-    fn magnitude_digits(self, radix: u32) -> usize {
-        self.unsigned_abs().digit_count(radix)
+    fn absolute_value(self) -> u64 {
+        u64::from(self.unsigned_abs())
     }
 }
 
@@ -48,8 +47,8 @@ impl ToLexical for i16 {
 
     #[inline(always)]
     #[track_caller]
-    fn magnitude_digits(self, radix: u32) -> usize {
-        self.unsigned_abs().digit_count(radix)
+    fn absolute_value(self) -> u64 {
+        u64::from(self.unsigned_abs())
     }
 }
 
@@ -62,8 +61,8 @@ impl ToLexical for i32 {
 
     #[inline(always)]
     #[track_caller]
-    fn magnitude_digits(self, radix: u32) -> usize {
-        self.unsigned_abs().digit_count(radix)
+    fn absolute_value(self) -> u64 {
+        u64::from(self.unsigned_abs())
     }
 }
 
@@ -76,8 +75,8 @@ impl ToLexical for i64 {
 
     #[inline(always)]
     #[track_caller]
-    fn magnitude_digits(self, radix: u32) -> usize {
-        self.unsigned_abs().digit_count(radix)
+    fn absolute_value(self) -> u64 {
+        self.unsigned_abs()
     }
 }
 
@@ -90,8 +89,8 @@ impl ToLexical for isize {
 
     #[inline(always)]
     #[track_caller]
-    fn magnitude_digits(self, radix: u32) -> usize {
-        self.unsigned_abs().digit_count(radix)
+    fn absolute_value(self) -> u64 {
+        self.unsigned_abs() as u64
     }
 }
 

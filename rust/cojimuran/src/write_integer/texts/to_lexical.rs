@@ -8,6 +8,7 @@ use crate::num::format::{NumberFormat, STANDARD};
 use crate::num::num::LexicalInteger;
 use crate::num::options::WriteOptions;
 use crate::write_integer::buffer::front_mut;
+use crate::write_integer::digits::count::DigitCount;
 
 /// An integer type whose numbers are written in decimal: `u8` to `u64`, `usize`, `i8` to `i64` and `isize`.
 ///
@@ -47,6 +48,11 @@ pub trait ToLexical: LexicalInteger + FormattedSize {
     #[doc(hidden)]
     fn write_magnitude(self, format: &NumberFormat, buffer: &mut [u8]) -> usize;
 
+    /// Returns the absolute value of the number.
+    #[doc(hidden)]
+    #[must_use]
+    fn absolute_value(self) -> u64;
+
     /// Returns the number of digits of the absolute value in the radix, which is from 2 to 36.
     ///
     /// # Panics
@@ -54,7 +60,11 @@ pub trait ToLexical: LexicalInteger + FormattedSize {
     /// If the radix is not from 2 to 36.
     #[doc(hidden)]
     #[must_use]
-    fn magnitude_digits(self, radix: u32) -> usize;
+    #[inline(always)]
+    #[track_caller]
+    fn magnitude_digits(self, radix: u32) -> usize {
+        self.absolute_value().digit_count(radix)
+    }
 
     /// Writes the number in the format to the start of the buffer, and returns the length of its text.
     /// Every byte after the text is unchanged. The buffer must have room for the number of bytes that
