@@ -181,7 +181,7 @@ pub(crate) const SOURCES: &[Source] = &[
             // what is behind a reference is called, so that a caller can say where its code ends.
             (
                 "#[inline(always)]",
-                "numbers/padded.rt texts/option.rt
+                "numbers/padded.rt numbers/compact.rt texts/option.rt
                 texts/lower.rt:room texts/lower.rt:write_to texts/lower.rt:write_pieces layout/column.rt:room
                 layout/column.rt:write_to layout/zero_padded.rt:room layout/zero_padded.rt:write_to
                 formatting/show.rt:write_pieces write_in_one_piece write_field write_with_length

@@ -1,8 +1,8 @@
 -- What `pad_integral` writes of a number, with a required sign as the option `+`.
 use Rattle.std.proofs.lemmas.Grind.{common_steps}
-use Rattle.std.proofs.Common.{◌≡◌, ◌∙◌, refl, true, false, Bool, [], ◌∷◌, ◌++◌, ℕ, suc, ◌+◌, ◌-◌, ◌^◌, ◌==◌, length}
+use Rattle.std.proofs.Common.{◌≡◌, ◌∙◌, refl, true, false, Bool, [], ◌∷◌, ◌++◌, ℕ, zero, suc, ◌+◌, ◌-◌, ◌^◌, ◌==◌, length}
 use Rattle.std.proofs.Common.{replicate, List, if◌then◌else◌, append-nil}
-use Rattle.std.proofs.Common.{append_assoc, None, Some, drop, ℤ, arith}
+use Rattle.std.proofs.Common.{ap, append_assoc, None, Some, drop, ℤ, arith}
 use Rattle.std.specs.Fmt.{fill_text, formatter_spec, padded_integral, padding_before, char_count, sign_text_with}
 use Rattle.std.specs.Fmt.{spec_precision, spec_width}
 use Rattle.std.specs.Int.{is_negative}
@@ -19,6 +19,13 @@ one_more x k = grind (arith, common_steps)
 -- copies of a byte and one more are one copy more
 pub replicate_more : (x k : ℕ) → replicate k x ++ x ∷ [] ≡ replicate (k + 1) x
 replicate_more x k = rw add-one (one_more x k)
+
+-- copies of a byte, and then others
+pub replicate_and : (x a b : ℕ) → replicate a x ++ replicate b x ≡ replicate (a + b) x
+replicate_and x zero b = grind arith
+replicate_and x (suc a) b =
+    let count : suc (a + b) ≡ suc a + b = omega arith in
+    ap (λ text. x ∷ text) (replicate_and x a b) ∙ ap (λ n. replicate n x) count
 
 -- if a width of 0 counts as none, and none as 0, the result is the width itself
 width_or_zero : (n : ℕ) → unwrap_or (if n == 0 then None else Some n) 0 ≡ n

@@ -1,5 +1,5 @@
 -- How many digits a number of a type has.
-use Rattle.std.proofs.Common.{◌≡◌, ℕ, zero, suc, ◌-◌, ◌*◌, ◌/◌, ◌^◌, ◌<◌, ◌≤◌, arith, inl, inr, min, ℤ, ◌≤ℤ◌}
+use Rattle.std.proofs.Common.{◌≡◌, ℕ, zero, suc, ◌-◌, ◌*◌, ◌/◌, ◌^◌, ◌<◌, ◌≤◌, arith, inl, inr, ℤ, ◌≤ℤ◌}
 use Rattle.std.proofs.Common.{unsigned_abs, Bool, true, false}
 use Rattle.std.proofs.Math.Nat.{pow-le-pow_left, pow-le-pow_right, pow-zero}
 use Rattle.std.proofs.lemmas.Bool.{cases_lt}
@@ -44,18 +44,6 @@ few_or_none r n zero many fits = omega (arith, fits, pow-zero r)
 few_or_none r n (suc width) many fits =
     let few = digit_count-le r n (suc width) (omega arith) fits in
     absurd (omega (arith, few, many))
-
--- a number of at most 64 bits has at most 64 digits
-pub fits_in_64 : (r n width : ℕ) → 2 ≤ r → n < 2 ^ 64 → n < r ^ width → n < r ^ min width 64
-fits_in_64 r n width two small fits =
-    elim (cases_lt 64 width) [
-      | inl wide ↦
-          let same : min width 64 ≡ 64 = omega (arith, wide) in
-          rw same (omega (arith, small, pow-le-pow_left two 64))
-      | inr narrow ↦
-          let same : min width 64 ≡ width = omega (arith, narrow) in
-          rw same fits
-    ]
 
 -- a number that has few enough bits is below a power of the radix, if each digit has room for `bits` of them
 pub fits_bits : (r bits n width : ℕ) → 2 ^ bits ≤ r → n < 2 ^ (bits * width) → n < r ^ width

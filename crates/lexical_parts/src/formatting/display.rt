@@ -13,10 +13,11 @@ ghost use Rattle.lexical_parts.specs.Trimmed.{trimmed_text, trimmed_units_text};
 
 use crate::formatting::cell::{is_short_cell, write_cell};
 use crate::formatting::shown::format_fill;
+use crate::numbers::compact::{CompactDigits, CompactFormatted};
 use crate::numbers::decimal::Decimal;
 use crate::numbers::digits::Digits;
 use crate::numbers::fixed::{Fixed, GroupedFixed, LONGEST_FIXED};
-use crate::numbers::formatted::{Formatted, formatted_room_suffices};
+use crate::numbers::formatted::Formatted;
 use crate::numbers::padded::{MOST_DIGITS, Padded, PaddedDigits};
 use crate::numbers::plus::Plus;
 use crate::numbers::powers_of_two::{Binary, FullHex, Hex};
@@ -26,7 +27,7 @@ use crate::sealed::Sealed;
 use lexical_num::limits::is_radix;
 use lexical_write_integer::digit_count::DigitCount;
 use lexical_write_integer::format::STANDARD;
-use lexical_write_integer::laws::{digit_count_within_bits, digits_computed, text_computed};
+use lexical_write_integer::laws::{digits_computed, padded_computed, text_computed};
 use lexical_write_integer::radix::Radix;
 use lexical_write_integer::{BUFFER_SIZE, NumberFormatBuilder, ToLexical};
 use std::fmt;
@@ -145,9 +146,9 @@ impl<T: ToLexical> fmt::Display for Formatted<'_, T> {
         (digits_text part.1.now.mantissa_radix (unsigned_abs (T.number part.0))))) };
 
     fn fmt<W: fmt::Write>(&self, f: &mut fmt::Formatter<W>) -> fmt::Result {
-        formatted_room_suffices(self.0, self.1);
+        self.1.in_range();
         let mut buffer = [0; BUFFER_SIZE];
-        let text = Formatted(self.0, self.1).to_str(&mut buffer);
+        let text = CompactFormatted(self.0, self.1).to_str(&mut buffer);
         text_computed(self.0, self.1, text.as_bytes());
         pad_number(
             f,
@@ -220,8 +221,8 @@ impl<T: DigitCount + Radix> Digits<T> {
         if !is_radix(u64::from(self.0)) {
             return Err(fmt::Error);
         }
-        digit_count_within_bits(self.0, self.1);
-        let digits = self.to_str(buffer);
+        self.1.fits_bits();
+        let digits = CompactDigits(self.0, self.1.as_u64()).to_str(buffer);
         digits_computed(self.0, self.1.as_u64(), digits.as_bytes());
         Ok(digits)
     }
@@ -240,10 +241,12 @@ impl<T: DigitCount + Radix> fmt::Display for Digits<T> {
     }
 }
 
-// Writes zeros and then digits as the standard library writes an integer. It is cold: few numbers
-// have more than 64 digits.
-#[cold]
-fn pad_wide<W: fmt::Write>(f: &mut fmt::Formatter<W>, zeros: usize, digits: &str) -> fmt::Result
+// Writes zeros and then digits as the standard library writes an integer.
+fn pad_zeros_and_digits<W: fmt::Write>(
+    f: &mut fmt::Formatter<W>,
+    zeros: usize,
+    digits: &str,
+) -> fmt::Result
     ensures writes { WritesOnOk W.write_str_gives f.old result (replicate zeros 48 ++ digits.now) f.new }
     ensures styled { WritesStyledOnOk W.write_str_gives f.old result
         (padded_integral (formatter_spec f.old) false [] (replicate zeros 48 ++ digits.now)) f.new }
@@ -264,22 +267,6 @@ fn pad_wide<W: fmt::Write>(f: &mut fmt::Formatter<W>, zeros: usize, digits: &str
     format_fill(fill - before, f)
 }
 
-impl<T: DigitCount + Radix> PaddedDigits<T> {
-    // Returns the last 64 digits of the text, or all if it has fewer. It is an error if the radix is not from 2 to 36,
-    // or if the number does not fit in the width.
-    fn text_or_error(self, buffer: &mut [u8; MOST_DIGITS]) -> Result<&str, fmt::Error>
-        ensures ok { IsOk result ↔ (IsRadix self.0 × (T.magnitude self.1 < self.0 ^ self.2)) }
-        ensures text { IfOk result (λ text.
-            replicate (self.2 - 64) 48 ++ text.now ≡ padded_text self.0 self.2 (T.magnitude self.1)) }
-    {
-        if !self.is_known_valid_and_utf8(Sealed) {
-            return Err(fmt::Error);
-        }
-        self.1.fits_bits();
-        Ok(PaddedDigits(self.0, self.1, self.2.min(MOST_DIGITS)).to_str(buffer))
-    }
-}
-
 impl<T: DigitCount + Radix> fmt::Display for PaddedDigits<T> {
     ghost output = { λ part. Some (padded_text part.0 part.2 (T.magnitude part.1)) };
 
@@ -288,12 +275,25 @@ impl<T: DigitCount + Radix> fmt::Display for PaddedDigits<T> {
 
     fn fmt<W: fmt::Write>(&self, f: &mut fmt::Formatter<W>) -> fmt::Result {
         let mut buffer = [0; MOST_DIGITS];
-        let digits = PaddedDigits(self.0, self.1, self.2).text_or_error(&mut buffer)?;
-        if self.2 <= MOST_DIGITS {
-            pad_number(f, false, false, digits)
-        } else {
-            pad_wide(f, self.2 - MOST_DIGITS, digits)
+        let (zeros, digits) = PaddedDigits(self.0, self.1, self.2).zeros_and_digits(&mut buffer)?;
+        pad_zeros_and_digits(f, zeros, digits)
+    }
+}
+
+impl<T: DigitCount + Radix> Padded<T> {
+    // Returns the text, or an error if the number does not fit in the width.
+    fn text_or_error(self, buffer: &mut [u8; MOST_DIGITS]) -> Result<&str, fmt::Error>
+        requires { self.1 ≤ 64 }
+        ensures ok { IsOk result ↔ (T.magnitude self.0 < 10 ^ self.1) }
+        ensures text { IfOk result (λ text. text.now ≡ padded_text 10 self.1 (T.magnitude self.0)) }
+    {
+        if !self.is_known_valid_and_utf8(Sealed) {
+            return Err(fmt::Error);
         }
+        self.0.fits_bits();
+        let padded = self.to_str(buffer);
+        padded_computed(10, self.1, self.0.as_u64(), padded.as_bytes());
+        Ok(padded)
     }
 }
 
@@ -304,7 +304,12 @@ impl<T: DigitCount + Radix> fmt::Display for Padded<T> {
         (padded_text 10 part.1 (T.magnitude part.0))) };
 
     fn fmt<W: fmt::Write>(&self, f: &mut fmt::Formatter<W>) -> fmt::Result {
-        fmt::Display::fmt(&PaddedDigits(10, self.0, self.1), f)
+        if self.1 > MOST_DIGITS {
+            return fmt::Display::fmt(&PaddedDigits(10, self.0, self.1), f);
+        }
+        let mut buffer = [0; MOST_DIGITS];
+        let text = Padded(self.0, self.1).text_or_error(&mut buffer)?;
+        pad_number(f, false, false, text)
     }
 }
 
@@ -315,7 +320,11 @@ impl<T: DigitCount + Radix> fmt::Display for FullHex<T> {
         (padded_text 16 (T.BITS / 4) (T.magnitude part.0))) };
 
     fn fmt<W: fmt::Write>(&self, f: &mut fmt::Formatter<W>) -> fmt::Result {
-        fmt::Display::fmt(&PaddedDigits(16, self.0, T::BITS / 4), f)
+        self.0.fits_bits();
+        let mut buffer = [0; 16];
+        let text = FullHex(self.0).to_str(&mut buffer);
+        padded_computed(16, T::BITS / 4, self.0.as_u64(), text.as_bytes());
+        pad_number(f, false, false, text)
     }
 }
 

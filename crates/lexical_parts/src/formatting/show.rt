@@ -14,8 +14,8 @@ pub(crate) const MOST_IN_ONE_PIECE: usize = 256;
 /// Adds `write_pieces`, which writes a part to a `String` or any other writer, and lets
 /// [`Shown(part)`](super::super::Shown) stand in a format string.
 ///
-/// All parts of this crate implement it, and so do tuples, columns and [`Joined`](super::super::Joined) of them. Many of
-/// them, such as `Hex`, also have `Display`, so you can write them in a format string without `Shown`.
+/// All parts of this crate implement it, and so do tuples, columns and [`Joined`](super::super::Joined) of them. Many
+/// of them, such as `Hex`, also have `Display`, so you can write them in a format string without `Shown`.
 ///
 /// If you implement this trait for a part of your own, it can be written in both ways, alone or in a tuple. You must
 /// define `is_showable`, and `write_pieces` too if the room of the part can be above 256 bytes.

@@ -13,7 +13,7 @@ ghost use Rattle.lexical_parts.specs.ShownParts.{IsAligned, ShowsSomeOnOk, align
 ghost use Rattle.lexical_parts.specs.ZeroPadded.{zero_padded_text};
 
 use crate::formatting::cut::{Nowhere, write_first_chars};
-use crate::formatting::show::{MOST_IN_ONE_PIECE, Show};
+use crate::formatting::show::Show;
 use crate::layout::column::{Center, Left, Right};
 use crate::layout::joined::Joined;
 use crate::layout::zero_padded::ZeroPadded;
@@ -85,11 +85,9 @@ impl<P: Show> Shown<P> {
             return Err(fmt::Error);
         }
         if is_bare(f) {
-            return write_through(part, f);
-        }
-        match part.try_to_str(&mut [0; MOST_IN_ONE_PIECE]) {
-            Some(text) => f.pad(text),
-            None => pad_pieces(part, f),
+            write_through(part, f)
+        } else {
+            pad_pieces(part, f)
         }
     }
 }
@@ -106,7 +104,7 @@ fn is_bare<W: fmt::Write>(f: &fmt::Formatter<W>) -> bool
 }
 
 // Writes the text with the width and the precision of the formatter, as std writes a `&str`. The text is written twice,
-// the first time to count its characters. It is cold: most texts are written in one piece.
+// the first time to count its characters. It is cold: most formats have neither.
 #[cold]
 fn pad_pieces<P: Show, W: fmt::Write>(part: P, f: &mut fmt::Formatter<W>) -> fmt::Result
     ensures { IsFlush f.old → IsAligned f.old → IsOk result

@@ -5,7 +5,7 @@ ghost use Rattle.std.specs.Prelude.{max, ◌<◌};
 ghost use Rattle.lexical_parts.specs.Column.{IsAtLeft, IsAtRight, IsCentered, centered_text, left_text, right_text};
 
 use crate::formatting::limited::{count_bytes, write_exactly};
-use crate::formatting::show::{MOST_IN_ONE_PIECE, Show, write_in_one_piece};
+use crate::formatting::show::Show;
 use crate::layout::fill::{insert_fill, write_copies, write_fill};
 use crate::part::Part;
 use crate::sealed::Sealed;
@@ -62,9 +62,6 @@ impl<P: Show> Show for Left<P> {
     fn write_pieces<O: fmt::Write>(self, out: &mut O) -> fmt::Result {
         if !self.is_showable() {
             return Err(fmt::Error);
-        }
-        if self.room() <= MOST_IN_ONE_PIECE {
-            return write_in_one_piece(self, out);
         }
         let count = count_bytes(self.0)?;
         write_exactly(self.0, count, out)?;
@@ -124,9 +121,6 @@ impl<P: Show> Show for Right<P> {
     fn write_pieces<O: fmt::Write>(self, out: &mut O) -> fmt::Result {
         if !self.is_showable() {
             return Err(fmt::Error);
-        }
-        if self.room() <= MOST_IN_ONE_PIECE {
-            return write_in_one_piece(self, out);
         }
         let count = count_bytes(self.0)?;
         write_copies(self.2, self.1.saturating_sub(count), out)?;
@@ -189,9 +183,6 @@ impl<P: Show> Show for Center<P> {
     fn write_pieces<O: fmt::Write>(self, out: &mut O) -> fmt::Result {
         if !self.is_showable() {
             return Err(fmt::Error);
-        }
-        if self.room() <= MOST_IN_ONE_PIECE {
-            return write_in_one_piece(self, out);
         }
         let count = count_bytes(self.0)?;
         let added = self.1.saturating_sub(count);

@@ -5,8 +5,8 @@ ghost use Rattle.std.specs.Prelude.{IsOk, ◌+◌, ◌<◌, ◌≤◌, ◌++◌,
 ghost use Rattle.lexical_write_integer.specs.Buffer.{Front, Writes};
 ghost use Rattle.lexical_write_integer.specs.Sequence.{IsExactly};
 
+use super::column::Left;
 use crate::part::Part;
-use crate::texts::bytes::Byte;
 use std::fmt;
 
 // Writes `count` copies of the byte to the start of the buffer, and returns `count`.
@@ -27,15 +27,25 @@ pub(crate) fn insert_fill(fill: u8, more: usize, count: usize, buffer: &mut [u8]
     buffer[..more].fill(fill);
 }
 
+// The most copies of a byte that are written with one call.
+const RUN: usize = 64;
+
 // Writes copies of a byte to a writer.
 pub(crate) fn write_copies<O: fmt::Write>(byte: u8, count: usize, out: &mut O) -> fmt::Result
     requires { byte < 128 }
     ensures { IsOk result → WritesInCalls O.write_str_gives out.old (replicate count byte) out.new }
 {
-    let mut array = [0; 1];
-    let text = Byte(byte).to_str(&mut array);
-    for _ in 0..count {
-        out.write_str(text)?;
+    for _ in 0..count / RUN {
+        write_run(byte, RUN, out)?;
     }
-    Ok(())
+    write_run(byte, count % RUN, out)
+}
+
+// Writes copies of a byte to a writer with one call.
+fn write_run<O: fmt::Write>(byte: u8, count: usize, out: &mut O) -> fmt::Result
+    requires byte { byte < 128 }
+    requires count { count ≤ 64 }
+    ensures { IsOk result → O.write_str_gives out.old (replicate count byte) out.new }
+{
+    out.write_str(Left("", count, byte).to_str(&mut [0; RUN]))
 }

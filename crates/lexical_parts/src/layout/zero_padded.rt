@@ -7,7 +7,7 @@ ghost use Rattle.lexical_write_integer.specs.ZerosAfterSign.{sign_length};
 ghost use Rattle.lexical_parts.specs.ZeroPadded.{IsZeroPadded, piece_with_zeros, zero_padded_text, zeros_after};
 
 use crate::formatting::limited::{count_bytes, write_exactly};
-use crate::formatting::show::{MOST_IN_ONE_PIECE, Show, write_in_one_piece};
+use crate::formatting::show::Show;
 use crate::layout::fill::{insert_fill, write_copies};
 use crate::part::Part;
 use crate::sealed::Sealed;
@@ -76,9 +76,6 @@ impl<P: Show> Show for ZeroPadded<P> {
     fn write_pieces<O: fmt::Write>(self, out: &mut O) -> fmt::Result {
         if !self.is_showable() {
             return Err(fmt::Error);
-        }
-        if self.room() <= MOST_IN_ONE_PIECE {
-            return write_in_one_piece(self, out);
         }
         let count = count_bytes(self.0)?;
         let mut adding = AddingZeros {

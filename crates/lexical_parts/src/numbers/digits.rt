@@ -8,12 +8,14 @@ ghost use Rattle.lexical_write_integer.specs.DigitCount.{digit_count};
 ghost use Rattle.lexical_write_integer.specs.Text.{IsDigits};
 ghost use Rattle.lexical_parts.specs.Length.{HasLength};
 
-use crate::formatting::show::Show;
+use crate::formatting::show::{Show, write_in_one_piece};
+use crate::numbers::compact::CompactDigits;
 use crate::part::Part;
 use crate::sealed::Sealed;
 use lexical_num::limits::is_radix;
 use lexical_write_integer::digit_count::{DigitCount, most_digits};
 use lexical_write_integer::radix::Radix;
+use std::fmt;
 
 /// The digits of an unsigned number in a radix from 2 to 36: `Digits(16, 255u32)` writes `FF`. The digits above 9 are
 /// `A` to `Z`; `Lower(Digits(16, 255u32))` writes `ff`. With another radix the part is not valid.
@@ -21,8 +23,9 @@ use lexical_write_integer::radix::Radix;
 /// The radix comes first, and the number is unsigned. A literal needs a type, because an `i32` is signed:
 /// `Digits(36, 1000u64)`. A signed number in a radix is written by `Formatted`. The room is the number of digits.
 ///
-/// If you name the radix as a constant, your program has only the code of that radix. With `{}` and [a few other
-/// calls](crate::costs#the-code-of-all-radices) it has the code of every radix, which is 60 KB or more.
+/// If the radix is a constant where you call `to_str`, your program has only the code of that radix. If it is known only
+/// at run time, your program has [the code of every radix](crate::costs#a-radix-that-is-known-only-at-run-time), which
+/// is 65 KB or more. `write_pieces` and `{}` take 5 KB for all radices, because they divide once for each digit.
 ///
 /// ```
 /// use lexical_parts::{Digits, Lower, Part};
@@ -75,5 +78,12 @@ impl<T: Radix + DigitCount> Show for Digits<T> {
     fn is_showable(self) -> bool {
         self.1.fits_bits();
         self.is_known_valid_and_utf8(Sealed)
+    }
+
+    fn write_pieces<O: fmt::Write>(self, out: &mut O) -> fmt::Result {
+        if !self.is_showable() {
+            return Err(fmt::Error);
+        }
+        write_in_one_piece(CompactDigits(self.0, self.1.as_u64()), out)
     }
 }

@@ -2,13 +2,14 @@
 #![tactic(auto, using(crate::proofs::OfTexts::Parts::parts))]
 
 ghost use Rattle.lexical_write_integer.specs.Computed.{padded_text};
-ghost use Rattle.std.specs.Prelude.{◌≡◌, ◌^◌, ◌<◌, IsTrue, Some, IfSome, IsSome};
+ghost use Rattle.std.specs.Prelude.{◌≡◌, ◌^◌, ◌<◌, ◌++◌, ◌↔◌, IfOk, IsOk, IsTrue, Some, IfSome, IsSome, replicate};
 ghost use Rattle.lexical_num.specs.Format.{IsRadix};
 ghost use Rattle.lexical_write_integer.specs.Padded.{IsPadded};
 ghost use Rattle.lexical_parts.specs.Length.{HasLength};
 
 use crate::formatting::show::{Show, write_in_one_piece};
 use crate::layout::fill::write_copies;
+use crate::numbers::compact::CompactDigits;
 use crate::part::Part;
 use crate::sealed::Sealed;
 use lexical_num::limits::is_radix;
@@ -17,7 +18,7 @@ use lexical_write_integer::padded::{fits_decimal_width, write_padded};
 use lexical_write_integer::radix::Radix;
 use std::fmt;
 
-// The digits of the longest number, and the most that are written to a writer in one piece.
+// The digits of the longest number.
 pub(crate) const MOST_DIGITS: usize = 64;
 
 // Returns whether the number has so few bits that it is below `radix^width`. To count its digits costs more, and is not
@@ -40,8 +41,9 @@ fn has_few_bits(number: u64, radix: u32, width: usize) -> bool
 /// The number must be below `radix.pow(width)`, and a literal needs a type. Its room is the width. `room` and
 /// `text_len` do not check that the number fits.
 ///
-/// If you name the radix as a constant, your program has only the code of that radix. With `{}` and [a few other
-/// calls](crate::costs#the-code-of-all-radices) it has the code of every radix, which is 60 KB or more.
+/// If the radix is a constant where you call `to_str`, your program has only the code of that radix. If it is known only
+/// at run time, your program has [the code of every radix](crate::costs#a-radix-that-is-known-only-at-run-time), which
+/// is 65 KB or more. `write_pieces` and `{}` take 5 KB for all radices, because they divide once for each digit.
 ///
 /// ```
 /// use lexical_parts::{PaddedDigits, Part};
@@ -99,13 +101,36 @@ impl<T: DigitCount + Radix> Show for PaddedDigits<T> {
     }
 
     fn write_pieces<O: fmt::Write>(self, out: &mut O) -> fmt::Result {
-        self.1.fits_bits();
-        if !self.is_showable() {
+        let mut buffer = [0; MOST_DIGITS];
+        let (zeros, digits) = self.zeros_and_digits(&mut buffer)?;
+        write_copies(b'0', zeros, out)?;
+        out.write_str(digits)
+    }
+}
+
+impl<T: DigitCount + Radix> PaddedDigits<T> {
+    // Returns how many zeros the text begins with, and the digits after them. It is an error if the radix is not from 2
+    // to 36, or if the number does not fit in the width.
+    pub(crate) fn zeros_and_digits(
+        self,
+        buffer: &mut [u8; MOST_DIGITS],
+    ) -> Result<(usize, &str), fmt::Error>
+        ensures ok { IsOk result ↔ (IsRadix self.0 × (T.magnitude self.1 < self.0 ^ self.2)) }
+        ensures text { IfOk result (λ text. IsPadded self.0 self.2 (T.magnitude self.1)
+            (replicate text.0 48 ++ text.1.now)) }
+        ensures computed { IfOk result (λ text.
+            replicate text.0 48 ++ text.1.now ≡ padded_text self.0 self.2 (T.magnitude self.1)) }
+    {
+        if !self.is_known_valid_and_utf8(Sealed) {
             return Err(fmt::Error);
         }
-        let width = self.2.min(MOST_DIGITS);
-        write_copies(b'0', self.2 - width, out)?;
-        write_in_one_piece(PaddedDigits(self.0, self.1, width), out)
+        if self.2 == 0 {
+            // The number is 0, and its digit does not fit.
+            return Ok((0, ""));
+        }
+        self.1.fits_bits();
+        let digits = CompactDigits(self.0, self.1.as_u64()).to_str(buffer);
+        Ok((self.2 - digits.len(), digits))
     }
 }
 
@@ -164,6 +189,12 @@ impl<T: DigitCount + Radix> Show for Padded<T> {
     }
 
     fn write_pieces<O: fmt::Write>(self, out: &mut O) -> fmt::Result {
-        PaddedDigits(10, self.0, self.1).write_pieces(out)
+        if self.1 > MOST_DIGITS {
+            return PaddedDigits(10, self.0, self.1).write_pieces(out);
+        }
+        if !self.is_showable() {
+            return Err(fmt::Error);
+        }
+        write_in_one_piece(self, out)
     }
 }

@@ -8,7 +8,7 @@ ghost use Rattle.std.specs.Str.{IsCharBoundary};
 ghost use Rattle.lexical_parts.specs.Lower.{lower_text};
 ghost use Rattle.lexical_write_integer.specs.Lowercase.{IsLowercase};
 
-use crate::formatting::show::{MOST_IN_ONE_PIECE, Show, write_in_one_piece};
+use crate::formatting::show::{Show, write_in_one_piece};
 use crate::part::Part;
 use crate::sealed::Sealed;
 use std::fmt;
@@ -69,9 +69,6 @@ impl<P: Show> Show for Lower<P> {
     fn write_pieces<O: fmt::Write>(self, out: &mut O) -> fmt::Result {
         if !self.is_showable() {
             return Err(fmt::Error);
-        }
-        if self.room() <= MOST_IN_ONE_PIECE {
-            return write_in_one_piece(self, out);
         }
         let mut lowering = Lowering { out };
         let result = self.0.write_pieces(&mut lowering);

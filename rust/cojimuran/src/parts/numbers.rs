@@ -6,6 +6,8 @@
 pub(crate) mod decimal;
 pub(crate) mod digits;
 pub(crate) mod formatted;
+// The last two in little code.
+pub(crate) mod compact;
 
 // The integer types, numbers that always have a sign, and the sign alone.
 mod integers;

@@ -6,6 +6,7 @@
 use crate::num::limits::is_radix;
 use crate::parts::formatting::cell::{is_short_cell, write_cell};
 use crate::parts::formatting::shown::format_fill;
+use crate::parts::numbers::compact::{CompactDigits, CompactFormatted};
 use crate::parts::numbers::decimal::Decimal;
 use crate::parts::numbers::digits::Digits;
 use crate::parts::numbers::fixed::{Fixed, GroupedFixed, LONGEST_FIXED};
@@ -111,7 +112,7 @@ impl<T: ToLexical> fmt::Display for Formatted<'_, T> {
     #[inline(always)]
     fn fmt(&self, f: &mut fmt::Formatter<'_>) -> fmt::Result {
         let mut buffer = [0; BUFFER_SIZE];
-        let text = Formatted(self.0, self.1).to_str(&mut buffer);
+        let text = CompactFormatted(self.0, self.1).to_str(&mut buffer);
         pad_number(
             f,
             self.0.is_negative(),
@@ -163,7 +164,7 @@ impl<T: DigitCount + Radix> Digits<T> {
         if !is_radix(u64::from(self.0)) {
             return Err(fmt::Error);
         }
-        let digits = self.to_str(buffer);
+        let digits = CompactDigits(self.0, self.1.as_u64()).to_str(buffer);
         Ok(digits)
     }
 }
@@ -177,11 +178,9 @@ impl<T: DigitCount + Radix> fmt::Display for Digits<T> {
     }
 }
 
-// Writes zeros and then digits as the standard library writes an integer. It is cold: few numbers
-// have more than 64 digits.
-#[cold]
+// Writes zeros and then digits as the standard library writes an integer.
 #[inline]
-fn pad_wide(f: &mut fmt::Formatter<'_>, zeros: usize, digits: &str) -> fmt::Result {
+fn pad_zeros_and_digits(f: &mut fmt::Formatter<'_>, zeros: usize, digits: &str) -> fmt::Result {
     let plus = plus_of(f);
     let width = f.width().unwrap_or(0);
     let missing = width
@@ -198,42 +197,45 @@ fn pad_wide(f: &mut fmt::Formatter<'_>, zeros: usize, digits: &str) -> fmt::Resu
     format_fill(fill - before, f)
 }
 
-impl<T: DigitCount + Radix> PaddedDigits<T> {
-    // Returns the last 64 digits of the text, or all if it has fewer. It is an error if the radix is not from 2 to 36,
-    // or if the number does not fit in the width.
+impl<T: DigitCount + Radix> fmt::Display for PaddedDigits<T> {
+    #[inline(always)]
+    fn fmt(&self, f: &mut fmt::Formatter<'_>) -> fmt::Result {
+        let mut buffer = [0; MOST_DIGITS];
+        let (zeros, digits) = PaddedDigits(self.0, self.1, self.2).zeros_and_digits(&mut buffer)?;
+        pad_zeros_and_digits(f, zeros, digits)
+    }
+}
+
+impl<T: DigitCount + Radix> Padded<T> {
+    // Returns the text, or an error if the number does not fit in the width.
     #[inline(always)]
     fn text_or_error(self, buffer: &mut [u8; MOST_DIGITS]) -> Result<&str, fmt::Error> {
         if !self.is_known_valid_and_utf8(Sealed) {
             return Err(fmt::Error);
         }
-        Ok(PaddedDigits(self.0, self.1, self.2.min(MOST_DIGITS)).to_str(buffer))
-    }
-}
-
-impl<T: DigitCount + Radix> fmt::Display for PaddedDigits<T> {
-    #[inline(always)]
-    fn fmt(&self, f: &mut fmt::Formatter<'_>) -> fmt::Result {
-        let mut buffer = [0; MOST_DIGITS];
-        let digits = PaddedDigits(self.0, self.1, self.2).text_or_error(&mut buffer)?;
-        if self.2 <= MOST_DIGITS {
-            pad_number(f, false, false, digits)
-        } else {
-            pad_wide(f, self.2 - MOST_DIGITS, digits)
-        }
+        let padded = self.to_str(buffer);
+        Ok(padded)
     }
 }
 
 impl<T: DigitCount + Radix> fmt::Display for Padded<T> {
     #[inline(always)]
     fn fmt(&self, f: &mut fmt::Formatter<'_>) -> fmt::Result {
-        fmt::Display::fmt(&PaddedDigits(10, self.0, self.1), f)
+        if self.1 > MOST_DIGITS {
+            return fmt::Display::fmt(&PaddedDigits(10, self.0, self.1), f);
+        }
+        let mut buffer = [0; MOST_DIGITS];
+        let text = Padded(self.0, self.1).text_or_error(&mut buffer)?;
+        pad_number(f, false, false, text)
     }
 }
 
 impl<T: DigitCount + Radix> fmt::Display for FullHex<T> {
     #[inline(always)]
     fn fmt(&self, f: &mut fmt::Formatter<'_>) -> fmt::Result {
-        fmt::Display::fmt(&PaddedDigits(16, self.0, T::BITS / 4), f)
+        let mut buffer = [0; 16];
+        let text = FullHex(self.0).to_str(&mut buffer);
+        pad_number(f, false, false, text)
     }
 }
 

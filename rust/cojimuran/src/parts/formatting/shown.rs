@@ -3,7 +3,7 @@
 //! Parts in a format string with the options of a `&str`: those whose text is not that of one number, and `Scientific`.
 
 use crate::parts::formatting::cut::{Nowhere, write_first_chars};
-use crate::parts::formatting::show::{MOST_IN_ONE_PIECE, Show};
+use crate::parts::formatting::show::Show;
 use crate::parts::layout::column::{Center, Left, Right};
 use crate::parts::layout::joined::Joined;
 use crate::parts::layout::zero_padded::ZeroPadded;
@@ -65,11 +65,9 @@ impl<P: Show> Shown<P> {
             return Err(fmt::Error);
         }
         if is_bare(f) {
-            return write_through(part, f);
-        }
-        match part.try_to_str(&mut [0; MOST_IN_ONE_PIECE]) {
-            Some(text) => f.pad(text),
-            None => pad_pieces(part, f),
+            write_through(part, f)
+        } else {
+            pad_pieces(part, f)
         }
     }
 }
@@ -83,7 +81,7 @@ fn is_bare(f: &fmt::Formatter<'_>) -> bool {
 }
 
 // Writes the text with the width and the precision of the formatter, as std writes a `&str`. The text is written twice,
-// the first time to count its characters. It is cold: most texts are written in one piece.
+// the first time to count its characters. It is cold: most formats have neither.
 #[cold]
 #[inline]
 fn pad_pieces<P: Show>(part: P, f: &mut fmt::Formatter<'_>) -> fmt::Result {

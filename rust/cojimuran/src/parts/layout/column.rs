@@ -3,7 +3,7 @@
 //! Parts that are padded to the width of a column.
 
 use crate::parts::formatting::limited::{count_bytes, write_exactly};
-use crate::parts::formatting::show::{MOST_IN_ONE_PIECE, Show, write_in_one_piece};
+use crate::parts::formatting::show::Show;
 use crate::parts::layout::fill::{insert_fill, write_copies, write_fill};
 use crate::parts::part::Part;
 use crate::parts::sealed::Sealed;
@@ -55,9 +55,6 @@ impl<P: Show> Show for Left<P> {
     fn write_pieces<O: fmt::Write>(self, out: &mut O) -> fmt::Result {
         if !self.is_showable() {
             return Err(fmt::Error);
-        }
-        if self.room() <= MOST_IN_ONE_PIECE {
-            return write_in_one_piece(self, out);
         }
         let count = count_bytes(self.0)?;
         write_exactly(self.0, count, out)?;
@@ -113,9 +110,6 @@ impl<P: Show> Show for Right<P> {
     fn write_pieces<O: fmt::Write>(self, out: &mut O) -> fmt::Result {
         if !self.is_showable() {
             return Err(fmt::Error);
-        }
-        if self.room() <= MOST_IN_ONE_PIECE {
-            return write_in_one_piece(self, out);
         }
         let count = count_bytes(self.0)?;
         write_copies(self.2, self.1.saturating_sub(count), out)?;
@@ -174,9 +168,6 @@ impl<P: Show> Show for Center<P> {
     fn write_pieces<O: fmt::Write>(self, out: &mut O) -> fmt::Result {
         if !self.is_showable() {
             return Err(fmt::Error);
-        }
-        if self.room() <= MOST_IN_ONE_PIECE {
-            return write_in_one_piece(self, out);
         }
         let count = count_bytes(self.0)?;
         let added = self.1.saturating_sub(count);

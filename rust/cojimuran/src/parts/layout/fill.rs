@@ -2,8 +2,8 @@
 
 //! Runs of one byte, before a text and after it.
 
+use super::column::Left;
 use crate::parts::part::Part;
-use crate::parts::texts::bytes::Byte;
 use core::fmt;
 
 // Writes `count` copies of the byte to the start of the buffer, and returns `count`.
@@ -20,13 +20,20 @@ pub(crate) fn insert_fill(fill: u8, more: usize, count: usize, buffer: &mut [u8]
     buffer[..more].fill(fill);
 }
 
+// The most copies of a byte that are written with one call.
+const RUN: usize = 64;
+
 // Writes copies of a byte to a writer.
 #[inline]
 pub(crate) fn write_copies<O: fmt::Write>(byte: u8, count: usize, out: &mut O) -> fmt::Result {
-    let mut array = [0; 1];
-    let text = Byte(byte).to_str(&mut array);
-    for _ in 0..count {
-        out.write_str(text)?;
+    for _ in 0..count / RUN {
+        write_run(byte, RUN, out)?;
     }
-    Ok(())
+    write_run(byte, count % RUN, out)
+}
+
+// Writes copies of a byte to a writer with one call.
+#[inline]
+fn write_run<O: fmt::Write>(byte: u8, count: usize, out: &mut O) -> fmt::Result {
+    out.write_str(Left("", count, byte).to_str(&mut [0; RUN]))
 }

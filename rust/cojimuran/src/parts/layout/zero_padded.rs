@@ -3,7 +3,7 @@
 //! Numbers with leading zeros, up to at least a width.
 
 use crate::parts::formatting::limited::{count_bytes, write_exactly};
-use crate::parts::formatting::show::{MOST_IN_ONE_PIECE, Show, write_in_one_piece};
+use crate::parts::formatting::show::Show;
 use crate::parts::layout::fill::{insert_fill, write_copies};
 use crate::parts::part::Part;
 use crate::parts::sealed::Sealed;
@@ -66,9 +66,6 @@ impl<P: Show> Show for ZeroPadded<P> {
     fn write_pieces<O: fmt::Write>(self, out: &mut O) -> fmt::Result {
         if !self.is_showable() {
             return Err(fmt::Error);
-        }
-        if self.room() <= MOST_IN_ONE_PIECE {
-            return write_in_one_piece(self, out);
         }
         let count = count_bytes(self.0)?;
         let mut adding = AddingZeros {

@@ -3,11 +3,13 @@
 //! The digits of an unsigned number in any radix.
 
 use crate::num::limits::is_radix;
-use crate::parts::formatting::show::Show;
+use crate::parts::formatting::show::{Show, write_in_one_piece};
+use crate::parts::numbers::compact::CompactDigits;
 use crate::parts::part::Part;
 use crate::parts::sealed::Sealed;
 use crate::write_integer::digit_count::{DigitCount, most_digits};
 use crate::write_integer::radix::Radix;
+use core::fmt;
 
 /// The digits of an unsigned number in a radix from 2 to 36: `Digits(16, 255u32)` writes `FF`. The digits above 9 are
 /// `A` to `Z`; `Lower(Digits(16, 255u32))` writes `ff`. With another radix the part is not valid.
@@ -15,8 +17,9 @@ use crate::write_integer::radix::Radix;
 /// The radix comes first, and the number is unsigned. A literal needs a type, because an `i32` is signed:
 /// `Digits(36, 1000u64)`. A signed number in a radix is written by `Formatted`. The room is the number of digits.
 ///
-/// If you name the radix as a constant, your program has only the code of that radix. With `{}` and [a few other
-/// calls](crate::costs#the-code-of-all-radices) it has the code of every radix, which is 60 KB or more.
+/// If the radix is a constant where you call `to_str`, your program has only the code of that radix. If it is known only
+/// at run time, your program has [the code of every radix](crate::costs#a-radix-that-is-known-only-at-run-time), which
+/// is 65 KB or more. `write_pieces` and `{}` take 5 KB for all radices, because they divide once for each digit.
 ///
 /// ```
 /// use cojimuran::{Digits, Lower, Part};
@@ -62,5 +65,14 @@ impl<T: Radix + DigitCount> Show for Digits<T> {
     #[track_caller]
     fn is_showable(self) -> bool {
         self.is_known_valid_and_utf8(Sealed)
+    }
+
+    #[inline(always)]
+    #[track_caller]
+    fn write_pieces<O: fmt::Write>(self, out: &mut O) -> fmt::Result {
+        if !self.is_showable() {
+            return Err(fmt::Error);
+        }
+        write_in_one_piece(CompactDigits(self.0, self.1.as_u64()), out)
     }
 }

@@ -2,11 +2,13 @@
 
 //! A number in a format, which has a radix, a sign and groups of digits.
 
-use crate::parts::formatting::show::Show;
+use crate::parts::formatting::show::{Show, write_in_one_piece};
+use crate::parts::numbers::compact::CompactFormatted;
 use crate::parts::part::Part;
 use crate::parts::sealed::Sealed;
 use crate::write_integer::digit_count::DigitCount;
 use crate::write_integer::{NumberFormat, ToLexical, sign_len};
+use core::fmt;
 
 // Returns the largest absolute value of a number of the type.
 #[inline(always)]
@@ -24,9 +26,9 @@ fn largest_magnitude<T: ToLexical>() -> u64 {
 /// `Formatted(1234567, &format)` writes `1,234,567`. Its room is the length of the longest text of the type in the
 /// format: 26 bytes for 64 bits in decimal and groups of three, and at most 128 bytes for every type and format.
 ///
-/// If the format is a constant, your program has only the code of its radix. With `{}` and [a few other
-/// calls](crate::costs#the-code-of-all-radices) it has the code of every radix, which is 60 KB or more, also if the
-/// radix is 10. For groups of decimal digits in a format string, `GroupedFixed(number, 0, &format)` avoids that.
+/// If the format is a constant where you call `to_str`, your program has only the code of its radix. If it is known only
+/// at run time, your program has [the code of every radix](crate::costs#a-radix-that-is-known-only-at-run-time), which
+/// is 65 KB or more. `write_pieces` and `{}` take 5 KB for all radices, because they divide once for each digit.
 ///
 /// ```
 /// use cojimuran::{Formatted, Part};
@@ -70,5 +72,11 @@ impl<T: ToLexical> Show for Formatted<'_, T> {
     #[track_caller]
     fn is_showable(self) -> bool {
         self.is_known_valid_and_utf8(Sealed)
+    }
+
+    #[inline(always)]
+    #[track_caller]
+    fn write_pieces<O: fmt::Write>(self, out: &mut O) -> fmt::Result {
+        write_in_one_piece(CompactFormatted(self.0, self.1), out)
     }
 }

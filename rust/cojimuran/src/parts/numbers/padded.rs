@@ -5,6 +5,7 @@
 use crate::num::limits::is_radix;
 use crate::parts::formatting::show::{Show, write_in_one_piece};
 use crate::parts::layout::fill::write_copies;
+use crate::parts::numbers::compact::CompactDigits;
 use crate::parts::part::Part;
 use crate::parts::sealed::Sealed;
 use crate::write_integer::digit_count::DigitCount;
@@ -12,7 +13,7 @@ use crate::write_integer::padded::{fits_decimal_width, write_padded};
 use crate::write_integer::radix::Radix;
 use core::fmt;
 
-// The digits of the longest number, and the most that are written to a writer in one piece.
+// The digits of the longest number.
 pub(crate) const MOST_DIGITS: usize = 64;
 
 // Returns whether the number has so few bits that it is below `radix^width`. To count its digits costs more, and is not
@@ -32,8 +33,9 @@ fn has_few_bits(number: u64, radix: u32, width: usize) -> bool {
 /// The number must be below `radix.pow(width)`, and a literal needs a type. Its room is the width. `room` and
 /// `text_len` do not check that the number fits.
 ///
-/// If you name the radix as a constant, your program has only the code of that radix. With `{}` and [a few other
-/// calls](crate::costs#the-code-of-all-radices) it has the code of every radix, which is 60 KB or more.
+/// If the radix is a constant where you call `to_str`, your program has only the code of that radix. If it is known only
+/// at run time, your program has [the code of every radix](crate::costs#a-radix-that-is-known-only-at-run-time), which
+/// is 65 KB or more. `write_pieces` and `{}` take 5 KB for all radices, because they divide once for each digit.
 ///
 /// ```
 /// use cojimuran::{PaddedDigits, Part};
@@ -81,12 +83,30 @@ impl<T: DigitCount + Radix> Show for PaddedDigits<T> {
 
     #[inline(always)]
     fn write_pieces<O: fmt::Write>(self, out: &mut O) -> fmt::Result {
-        if !self.is_showable() {
+        let mut buffer = [0; MOST_DIGITS];
+        let (zeros, digits) = self.zeros_and_digits(&mut buffer)?;
+        write_copies(b'0', zeros, out)?;
+        out.write_str(digits)
+    }
+}
+
+impl<T: DigitCount + Radix> PaddedDigits<T> {
+    // Returns how many zeros the text begins with, and the digits after them. It is an error if the radix is not from 2
+    // to 36, or if the number does not fit in the width.
+    #[inline(always)]
+    pub(crate) fn zeros_and_digits(
+        self,
+        buffer: &mut [u8; MOST_DIGITS],
+    ) -> Result<(usize, &str), fmt::Error> {
+        if !self.is_known_valid_and_utf8(Sealed) {
             return Err(fmt::Error);
         }
-        let width = self.2.min(MOST_DIGITS);
-        write_copies(b'0', self.2 - width, out)?;
-        write_in_one_piece(PaddedDigits(self.0, self.1, width), out)
+        if self.2 == 0 {
+            // The number is 0, and its digit does not fit.
+            return Ok((0, ""));
+        }
+        let digits = CompactDigits(self.0, self.1.as_u64()).to_str(buffer);
+        Ok((self.2 - digits.len(), digits))
     }
 }
 
@@ -135,6 +155,12 @@ impl<T: DigitCount + Radix> Show for Padded<T> {
 
     #[inline(always)]
     fn write_pieces<O: fmt::Write>(self, out: &mut O) -> fmt::Result {
-        PaddedDigits(10, self.0, self.1).write_pieces(out)
+        if self.1 > MOST_DIGITS {
+            return PaddedDigits(10, self.0, self.1).write_pieces(out);
+        }
+        if !self.is_showable() {
+            return Err(fmt::Error);
+        }
+        write_in_one_piece(self, out)
     }
 }

@@ -2,7 +2,7 @@
 
 //! Parts in lowercase.
 
-use crate::parts::formatting::show::{MOST_IN_ONE_PIECE, Show, write_in_one_piece};
+use crate::parts::formatting::show::{Show, write_in_one_piece};
 use crate::parts::part::Part;
 use crate::parts::sealed::Sealed;
 use core::fmt;
@@ -60,9 +60,6 @@ impl<P: Show> Show for Lower<P> {
     fn write_pieces<O: fmt::Write>(self, out: &mut O) -> fmt::Result {
         if !self.is_showable() {
             return Err(fmt::Error);
-        }
-        if self.room() <= MOST_IN_ONE_PIECE {
-            return write_in_one_piece(self, out);
         }
         let mut lowering = Lowering { out };
         let result = self.0.write_pieces(&mut lowering);

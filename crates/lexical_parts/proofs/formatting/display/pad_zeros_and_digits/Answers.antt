@@ -3,7 +3,7 @@ use Rattle.std.proofs.Output.{has_written_styled_append, has_written_styled_of_e
 use Rattle.std.proofs.lemmas.List.{length-replicate}
 use Rattle.std.specs.Fmt.{fill_text, formatter_spec, sign_text_with}
 use Rattle.lexical_parts.proofs.OfFormatting.ShownNumbers.{pieces_of_number, width_of}
-use Rattle.lexical_parts.proofs.formatting.display.pad_wide.Goals as goal
+use Rattle.lexical_parts.proofs.formatting.display.pad_zeros_and_digits.Goals as goal
 
 pub returns-clause-styled : goal.returns-clause-styled
 returns-clause-styled g c = λ flush ok.
