@@ -178,8 +178,8 @@ pub trait Part: Copy {
     /// bytes or more.
     ///
     /// `std::str::from_utf8` reads the text once to check it if there is a `Displayed`, a reference to a `String` or a
-    /// part of your own in it, if a byte or a fill in it is 128 or above, or if the buffer is shorter than the room. It
-    /// reads a `Bytes` by itself. Other texts need no check.
+    /// part of your own in it, or if a byte or a fill in it is 128 or above. It reads a `Bytes` by itself. Other texts
+    /// need no check.
     ///
     /// # Panics
     ///
@@ -192,11 +192,15 @@ pub trait Part: Copy {
         ensures text { is_text self result.now }
         ensures at_most { length result.now ≤ room self }
     {
-        let is_known_utf8 = is_known_utf8(self, buffer);
+        let is_known_utf8 = self.is_known_valid_and_utf8(Sealed);
+        prove!(
+            !is_known_utf8 || has_room(self, buffer),
+            "the buffer is shorter than the room of the part"
+        );
         let text = self.to_text(buffer);
         if is_known_utf8 {
-            // SAFETY: `is_known_utf8` ensures what `to_text` requires, and `is_utf8`. So `to_text` ensures `utf8`: the
-            // text is UTF-8.
+            // SAFETY: the part is valid, it is UTF-8, and the buffer has its room. So `to_text` ensures `utf8`: the text
+            // is UTF-8.
             unsafe { from_utf8_unchecked(text) }
         } else {
             let checked = from_utf8(text);
@@ -265,13 +269,10 @@ fn str_if_it_fits<P: Part>(part: P, buffer: &mut [u8]) -> Option<&str>
     Some(checked.unwrap())
 }
 
-// Returns true only if the part is valid, its text is UTF-8, and the buffer has its room. For a part of another crate
-// it returns false, because nothing is known of the text of such a part.
-fn is_known_utf8<P: Part>(part: P, buffer: &[u8]) -> bool
-    ensures valid { IsTrue result → P.is_valid part }
-    ensures utf8 { IsTrue result → P.is_utf8 part }
-    ensures room { IsTrue result → P.room part ≤ length buffer.now }
+// Returns whether the buffer has the room of the part.
+fn has_room<P: Part>(part: P, buffer: &[u8]) -> bool
+    requires { P.is_valid part }
+    ensures { IsTrue result ↔ P.room part ≤ length buffer.now }
 {
-    part.is_known_valid_and_utf8(Sealed)
-        && (part.room_bound(Sealed) <= buffer.len() || part.room() <= buffer.len())
+    part.room_bound(Sealed) <= buffer.len() || part.room() <= buffer.len()
 }

@@ -186,7 +186,7 @@ pub(crate) const SOURCES: &[Source] = &[
                 layout/column.rt:write_to layout/zero_padded.rt:room layout/zero_padded.rt:write_to
                 formatting/show.rt:write_pieces write_in_one_piece write_field write_with_length
                 write_at try_write_to write_if_it_fits try_to_str str_if_it_fits
-                is_known_valid_and_utf8 room_bound is_known_utf8",
+                is_known_valid_and_utf8 room_bound has_room",
             ),
             // Some parts are formatted as others in a constant radix. If that radix were not known there, `{}` of a
             // `Decimal` would have the code of all radices in small programs.

@@ -123,8 +123,8 @@ pub trait Part: Copy {
     /// bytes or more.
     ///
     /// `std::str::from_utf8` reads the text once to check it if there is a `Displayed`, a reference to a `String` or a
-    /// part of your own in it, if a byte or a fill in it is 128 or above, or if the buffer is shorter than the room. It
-    /// reads a `Bytes` by itself. Other texts need no check.
+    /// part of your own in it, or if a byte or a fill in it is 128 or above. It reads a `Bytes` by itself. Other texts
+    /// need no check.
     ///
     /// # Panics
     ///
@@ -134,12 +134,16 @@ pub trait Part: Copy {
     #[track_caller]
     #[allow(unsafe_code)]
     fn to_str(self, buffer: &mut [u8]) -> &str {
-        let is_known_utf8 = is_known_utf8(self, buffer);
+        let is_known_utf8 = self.is_known_valid_and_utf8(Sealed);
+        assert!(
+            !is_known_utf8 || has_room(self, buffer),
+            "the buffer is shorter than the room of the part"
+        );
         let text = self.to_text(buffer);
         if is_known_utf8 {
             debug_assert!(from_utf8(text).is_ok());
-            // SAFETY: `is_known_utf8` ensures what `to_text` requires, and `is_utf8`. So `to_text` ensures `utf8`: the
-            // text is UTF-8.
+            // SAFETY: the part is valid, it is UTF-8, and the buffer has its room. So `to_text` ensures `utf8`: the text
+            // is UTF-8.
             unsafe { from_utf8_unchecked(text) }
         } else {
             let checked = from_utf8(text);
@@ -188,10 +192,8 @@ fn str_if_it_fits<P: Part>(part: P, buffer: &mut [u8]) -> Option<&str> {
     Some(checked.unwrap())
 }
 
-// Returns true only if the part is valid, its text is UTF-8, and the buffer has its room. For a part of another crate
-// it returns false, because nothing is known of the text of such a part.
+// Returns whether the buffer has the room of the part.
 #[inline(always)]
-fn is_known_utf8<P: Part>(part: P, buffer: &[u8]) -> bool {
-    part.is_known_valid_and_utf8(Sealed)
-        && (part.room_bound(Sealed) <= buffer.len() || part.room() <= buffer.len())
+fn has_room<P: Part>(part: P, buffer: &[u8]) -> bool {
+    part.room_bound(Sealed) <= buffer.len() || part.room() <= buffer.len()
 }
