@@ -8,8 +8,9 @@ ghost use Rattle.lexical_write_integer.specs.DigitCount.{digit_count};
 ghost use Rattle.lexical_write_integer.specs.Text.{IsDigits};
 ghost use Rattle.lexical_parts.specs.Length.{HasLength};
 
-use crate::formatting::show::{Show, write_in_one_piece};
+use crate::formatting::show::Show;
 use crate::numbers::compact::CompactDigits;
+use crate::numbers::padded::MOST_DIGITS;
 use crate::part::Part;
 use crate::sealed::Sealed;
 use lexical_num::limits::is_radix;
@@ -84,6 +85,7 @@ impl<T: Radix + DigitCount> Show for Digits<T> {
         if !self.is_showable() {
             return Err(fmt::Error);
         }
-        write_in_one_piece(CompactDigits(self.0, self.1.as_u64()), out)
+        let digits = CompactDigits(self.0, self.1.as_u64());
+        out.write_str(digits.to_str(&mut [0; MOST_DIGITS]))
     }
 }

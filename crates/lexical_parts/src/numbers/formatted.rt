@@ -8,12 +8,12 @@ ghost use Rattle.lexical_write_integer.specs.Text.{IsText, need};
 ghost use Rattle.lexical_parts.specs.Formatted.{formatted_room, largest_magnitude};
 ghost use Rattle.lexical_parts.specs.Length.{HasLength};
 
-use crate::formatting::show::{Show, write_in_one_piece};
+use crate::formatting::show::Show;
 use crate::numbers::compact::CompactFormatted;
 use crate::part::Part;
 use crate::sealed::Sealed;
 use lexical_write_integer::digit_count::DigitCount;
-use lexical_write_integer::{NumberFormat, ToLexical, sign_len};
+use lexical_write_integer::{BUFFER_SIZE, NumberFormat, ToLexical, sign_len};
 use std::fmt;
 
 // Returns the largest absolute value of a number of the type.
@@ -99,6 +99,6 @@ impl<T: ToLexical> Show for Formatted<'_, T> {
 
     fn write_pieces<O: fmt::Write>(self, out: &mut O) -> fmt::Result {
         self.1.in_range();
-        write_in_one_piece(CompactFormatted(self.0, self.1), out)
+        out.write_str(CompactFormatted(self.0, self.1).to_str(&mut [0; BUFFER_SIZE]))
     }
 }

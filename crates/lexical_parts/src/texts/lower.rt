@@ -8,7 +8,7 @@ ghost use Rattle.std.specs.Str.{IsCharBoundary};
 ghost use Rattle.lexical_parts.specs.Lower.{lower_text};
 ghost use Rattle.lexical_write_integer.specs.Lowercase.{IsLowercase};
 
-use crate::formatting::show::{Show, write_in_one_piece};
+use crate::formatting::show::Show;
 use crate::part::Part;
 use crate::sealed::Sealed;
 use std::fmt;
@@ -96,7 +96,7 @@ impl<O: fmt::Write> fmt::Write for Lowering<'_, O> {
             if piece.is_empty() {
                 return Err(fmt::Error);
             }
-            write_in_one_piece(Lower(piece), self.out)?;
+            self.out.write_str(Lower(piece).to_str(&mut [0; 64]))?;
             start += piece.len();
         }
         Ok(())

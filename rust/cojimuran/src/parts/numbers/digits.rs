@@ -3,8 +3,9 @@
 //! The digits of an unsigned number in any radix.
 
 use crate::num::limits::is_radix;
-use crate::parts::formatting::show::{Show, write_in_one_piece};
+use crate::parts::formatting::show::Show;
 use crate::parts::numbers::compact::CompactDigits;
+use crate::parts::numbers::padded::MOST_DIGITS;
 use crate::parts::part::Part;
 use crate::parts::sealed::Sealed;
 use crate::write_integer::digit_count::{DigitCount, most_digits};
@@ -73,6 +74,7 @@ impl<T: Radix + DigitCount> Show for Digits<T> {
         if !self.is_showable() {
             return Err(fmt::Error);
         }
-        write_in_one_piece(CompactDigits(self.0, self.1.as_u64()), out)
+        let digits = CompactDigits(self.0, self.1.as_u64());
+        out.write_str(digits.to_str(&mut [0; MOST_DIGITS]))
     }
 }

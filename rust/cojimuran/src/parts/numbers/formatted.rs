@@ -2,12 +2,12 @@
 
 //! A number in a format, which has a radix, a sign and groups of digits.
 
-use crate::parts::formatting::show::{Show, write_in_one_piece};
+use crate::parts::formatting::show::Show;
 use crate::parts::numbers::compact::CompactFormatted;
 use crate::parts::part::Part;
 use crate::parts::sealed::Sealed;
 use crate::write_integer::digit_count::DigitCount;
-use crate::write_integer::{NumberFormat, ToLexical, sign_len};
+use crate::write_integer::{BUFFER_SIZE, NumberFormat, ToLexical, sign_len};
 use core::fmt;
 
 // Returns the largest absolute value of a number of the type.
@@ -77,6 +77,6 @@ impl<T: ToLexical> Show for Formatted<'_, T> {
     #[inline(always)]
     #[track_caller]
     fn write_pieces<O: fmt::Write>(self, out: &mut O) -> fmt::Result {
-        write_in_one_piece(CompactFormatted(self.0, self.1), out)
+        out.write_str(CompactFormatted(self.0, self.1).to_str(&mut [0; BUFFER_SIZE]))
     }
 }

@@ -2,7 +2,7 @@
 
 //! Parts in lowercase.
 
-use crate::parts::formatting::show::{Show, write_in_one_piece};
+use crate::parts::formatting::show::Show;
 use crate::parts::part::Part;
 use crate::parts::sealed::Sealed;
 use core::fmt;
@@ -84,7 +84,7 @@ impl<O: fmt::Write> fmt::Write for Lowering<'_, O> {
             if piece.is_empty() {
                 return Err(fmt::Error);
             }
-            write_in_one_piece(Lower(piece), self.out)?;
+            self.out.write_str(Lower(piece).to_str(&mut [0; 64]))?;
             start += piece.len();
         }
         Ok(())
