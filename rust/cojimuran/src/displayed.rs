@@ -25,8 +25,7 @@ use core::fmt::{self, Display, Write};
 /// [`room`](Part::room) bytes, `write_pieces`, or a format with a limit such as `{:.3e}`.
 ///
 /// This part is not proved: what it writes is what the `Display` of the value does. If that `Display` returns an error,
-/// `write_pieces` and `{}` return it, unless the part is in a column, a `ZeroPadded` or a `Lower`, or in a `Shown` with
-/// a width or a precision: then they panic, because they need the length first. The other calls panic.
+/// `write_pieces` and `{}` return it, and the other calls panic.
 #[derive(Debug)]
 pub struct Displayed<'a, T: ?Sized>(pub &'a T);
 
@@ -75,9 +74,8 @@ impl Write for Rest<'_> {
 impl<T: Display + ?Sized> Part for Displayed<'_, T> {
     #[inline]
     fn room(self) -> usize {
-        let mut count = Count(0);
-        write!(count, "{}", self.0).expect("the `Display` of the value returned an error");
-        count.0
+        self.text_len()
+            .expect("the `Display` of the value returned an error")
     }
 
     #[inline]
@@ -91,7 +89,9 @@ impl<T: Display + ?Sized> Part for Displayed<'_, T> {
 
     #[inline]
     fn text_len(self) -> Option<usize> {
-        Some(self.room())
+        let mut count = Count(0);
+        write!(count, "{}", self.0).ok()?;
+        Some(count.0)
     }
 }
 

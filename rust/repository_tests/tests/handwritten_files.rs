@@ -1,8 +1,8 @@
 //! What the package has by hand: the ends of a `Vec` and of a `String`, values with `Display`, and owned strings.
 
-use cojimuran::{Append, Bytes, Displayed, Joined, Left, Padded, Part, Show, Shown};
+use cojimuran::{Append, Bytes, Center, Displayed, Joined, Left, Lower, Padded, Part, Right, Show, Shown, ZeroPadded};
 use std::borrow::Cow;
-use std::fmt;
+use std::fmt::{self, Write};
 use std::net::Ipv4Addr;
 #[cfg(target_pointer_width = "64")]
 use std::os::unix::process::ExitStatusExt;
@@ -98,9 +98,25 @@ fn values_that_are_not_written() {
     assert!(catch_unwind(|| Displayed(&Never).room()).is_err());
     assert!(catch_unwind(|| Displayed(&Never).write_to(&mut [0; 9])).is_err());
     assert!(catch_unwind(|| Displayed(&12345).write_to(&mut [0; 4])).is_err());
-    assert!(Displayed(&Never).write_pieces(&mut String::new()).is_err());
-    // A column needs the length first.
-    assert!(catch_unwind(|| Left(Displayed(&Never), 5, b' ').write_pieces(&mut String::new())).is_err());
+    assert_eq!(Displayed(&Never).text_len(), None);
+    check_error(Displayed(&Never));
+    check_error(("a", Displayed(&Never)));
+    check_error(Some(Displayed(&Never)));
+    check_error(Joined(&[Displayed(&Never)], ","));
+    check_error(Left(Displayed(&Never), 5, b' '));
+    check_error(Right(Displayed(&Never), 5, b' '));
+    check_error(Center(Displayed(&Never), 500, b' '));
+    check_error(ZeroPadded(Displayed(&Never), 5));
+    check_error(Lower(Displayed(&Never)));
+}
+
+/// Checks that a part which is not written is an error where no buffer is passed, and a panic where one is.
+fn check_error(part: impl Show) {
+    assert!(part.write_pieces(&mut String::new()).is_err());
+    assert!(write!(String::new(), "{}", Shown(part)).is_err());
+    assert!(write!(String::new(), "{:9.2}", Shown(part)).is_err());
+    assert!(catch_unwind(AssertUnwindSafe(|| part.to_str(&mut [0; 999]).len())).is_err());
+    assert!(catch_unwind(AssertUnwindSafe(|| part.append_to(&mut String::new()))).is_err());
 }
 
 #[test]
