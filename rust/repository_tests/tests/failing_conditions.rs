@@ -11,8 +11,8 @@ use cojimuran::padded::write_padded;
 use cojimuran::radix::{Radix, digit_to_char};
 use cojimuran::write::WriteInteger;
 use cojimuran::{
-    Append, Bytes, Decimal, Digits, Fixed, Joined, Left, NumberFormatBuilder, Options, Padded, PaddedDigits, Part,
-    ToLexical, ToLexicalWithOptions, TrimmedFixed, UnsignedInteger, group_digits, jeaiii, table, write_field,
+    Append, Bytes, Decimal, Digits, Fixed, Hex, Joined, Left, NumberFormatBuilder, Options, Padded, PaddedDigits, Part,
+    Right, ToLexical, ToLexicalWithOptions, TrimmedFixed, UnsignedInteger, group_digits, jeaiii, table, write_field,
     write_sign, write_with_length,
 };
 use lexwrite::lines::join;
@@ -204,10 +204,16 @@ fn parts(called: &mut Vec<Panicking>) {
 }
 
 fn buffers(called: &mut Vec<Panicking>) {
-    let buffer = &mut [7; 128];
+    let (buffer, list) = (&mut [7; 128], [7u8, 8]);
     check_messages! { called;
         "the buffer is too short", "out of range": "ab".write_at(129, buffer),
             write_with_length("ab", 10, 129, 0, buffer);
+        // Each of these texts would fit.
+        "the buffer is too short", "the buffer is shorter than the room of the part":
+            7u64.to_str(&mut buffer[..19]), Hex(7u64).to_str(&mut buffer[..15]),
+            ("id=", 7u64).to_str(&mut buffer[..22]), (true, 'a', "b").to_str(&mut buffer[..9]),
+            Fixed(7u64, 2).to_str(&mut buffer[..20]), Right(7u8, 2, b' ').to_str(&mut buffer[..2]),
+            Joined(&list, ",").to_str(&mut buffer[..6]), Some(7i8).to_str(&mut buffer[..3]);
         "the text does not have `count` bytes", "the text does not have `count` bytes": write_field("ab", 0, 3, buffer);
         "the length and `extra` together are above `usize::MAX`",
             "the length and `extra` together are above usize::MAX":
