@@ -21,8 +21,9 @@
 //! | a part in an array that may be too short | [`part.try_to_str(&mut buffer)`](Part::try_to_str) |
 //! | a part in a format string | [`Shown(part)`](Shown) |
 //!
-//! An array must have [`part.room()`](Part::room) bytes, otherwise `to_str` and `to_text` may panic. So write a text of
-//! unknown length by `write_pieces`, which needs no array. [`BUFFER_SIZE`] bytes are enough for one number in any format.
+//! An array must have [`part.room()`](Part::room) bytes, otherwise `to_str` panics. [The page on
+//! conditions](conditions#how-long-a-buffer-must-be) has the room of each part. Write a text of unknown length by
+//! `write_pieces`, which needs no array. [`BUFFER_SIZE`] bytes are enough for one number in any format.
 //!
 //! A `char`, a `bool`, an `Option` of a part and a reference to a part are also parts, and with the feature `alloc` a
 //! reference to a `String`. This crate has these parts:
@@ -47,8 +48,8 @@
 //! compatibility. [`compact::Compact`] adds little code and is slower, [`padded::write_padded`] fills a buffer with a
 //! number, and [`group_digits`] and [`write_sign`] are for writers of your own.
 //!
-//! These pages have the details: [how large a buffer must be](buffers), [when calls panic](conditions), [what they
-//! cost](costs), and [what to write in place of another crate or `format!`](from_other_crates).
+//! These pages have the details: [when calls panic, and how long a buffer must be](conditions), [what they cost](costs),
+//! and [what to write in place of another crate or `format!`](from_other_crates).
 //!
 //! # What is proved
 //!
@@ -186,14 +187,7 @@ mod write_integer;
 #[cfg(doctest)]
 mod misuse;
 
-/// A page, not a module: how large the buffer must be.
-#[cfg(doc)]
-#[doc = include_str!("../BUFFERS.md")]
-pub mod buffers {}
-
-/// A page, not a module: what calls require, and what happens otherwise.
-///
-/// [buffers]: crate::buffers#a-buffer-that-may-be-too-short
+/// A page, not a module: how long a buffer must be, which parts are valid, and what happens otherwise.
 #[cfg(doc)]
 #[doc = include_str!("../CONDITIONS.md")]
 pub mod conditions {}
@@ -205,7 +199,7 @@ pub mod costs {}
 
 /// A page, not a module: what to change in a program that uses another crate or `format!`.
 ///
-/// [room]: crate::buffers
+/// [room]: crate::conditions#how-long-a-buffer-must-be
 #[cfg(doc)]
 #[doc = include_str!("../FROM_OTHER_CRATES.md")]
 pub mod from_other_crates {}

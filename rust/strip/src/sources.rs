@@ -189,7 +189,7 @@ pub(crate) const SOURCES: &[Source] = &[
                 is_known_valid_and_utf8 room_bound has_room",
             ),
             // Some parts are formatted as others in a constant radix. If that radix were not known there, `{}` of a
-            // `Decimal` would have the code of all radices in small programs.
+            // `Decimal` would have the code of the other radices too.
             ("#[inline(always)]", "fmt text_or_error"),
             // A panic of a short buffer names the line of the caller.
             (
