@@ -5,7 +5,6 @@
 int main(void)
 {
     char buffer[LEXICAL_BUFFER_SIZE];
-    char prefixed[2 + LEXICAL_BUFFER_SIZE + 1] = "0x"; /* the prefix, the digits and a NUL */
 
     size_t count = lexical_write(48879u, LEXICAL_FORMAT(.radix = 16), buffer, sizeof buffer);
     printf("%.*s\n", (int)count, buffer);
@@ -13,7 +12,8 @@ int main(void)
     count = lexical_write(1234567, LEXICAL_FORMAT(.radix = 10, .group_size = 3, .mark = ','), buffer, sizeof buffer);
     printf("%.*s\n", (int)count, buffer);
 
-    /* The digits begin after the prefix. */
+    /* A prefix, the digits after it, and a NUL. */
+    char prefixed[2 + LEXICAL_BUFFER_SIZE + 1] = "0x";
     count = lexical_write(48879u, LEXICAL_FORMAT(.radix = 16, .lowercase = 1), prefixed + 2, sizeof prefixed - 2);
     count = lexical_pad(count, 8, prefixed + 2, sizeof prefixed - 2);
     count = lexical_terminate(count, prefixed + 2, sizeof prefixed - 2);
