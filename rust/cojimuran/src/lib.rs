@@ -40,16 +40,19 @@
 //! | [`Left`], [`Right`], [`Center`] | a part in a column |
 //! | [`Joined`], [`OrElse`] | the parts of a slice with separators, or a part in the place of `None` |
 //! | [`Bytes`], [`HexBytes`], [`Byte`] | bytes, or bytes in hexadecimal |
+//! | [`Sign`] | the sign of a number, or nothing |
 //! | [`Displayed`] | any value with `Display`, such as a float or a `u128` |
 //!
 //! Most programs need nothing else. The other items mirror the crate `lexical-write-integer`, so that a program can
 //! move from that crate: [`ToLexical`] writes bytes in decimal, [`ToLexicalWithOptions`] does so in a [`NumberFormat`],
 //! and the modules have the writers of digits without a sign. [`Options`] has no fields, and is there only for
 //! compatibility. [`compact::Compact`] adds little code and is slower, [`padded::write_padded`] fills a buffer with a
-//! number, and [`group_digits`] and [`write_sign`] are for writers of your own.
+//! number, [`write_field`] and [`write_with_length`] write the fields of a header, and [`group_digits`],
+//! [`write_sign`] and [`sign_len`] are for writers of your own.
 //!
 //! These pages have the details: [when calls panic, and how long a buffer must be](conditions), [what they cost](costs),
-//! and [what to write in place of another crate or `format!`](from_other_crates).
+//! [what to write in place of another crate or `format!`](from_other_crates), and [what to write if a call does not
+//! compile](compile_errors).
 //!
 //! # What is proved
 //!
@@ -120,26 +123,6 @@
 #![doc = include_str!("../examples/own_part.rs")]
 //! ```
 //!
-//! # If it does not compile
-//!
-//! The message may name another method than `to_str`, or `Show` in place of a part.
-//!
-//! | rustc says | write |
-//! |---|---|
-//! | `i32` is not an unsigned integer type, or `to_str` exists for `Hex<i32>`, but its trait bounds were not satisfied | an unsigned number, such as `Hex(255u8)`, or for a negative number in a radix `Formatted(number, &FORMAT)` |
-//! | `(f64, u8)` is not a part, or `to_str` exists for `(u128, &str)`, but its trait bounds were not satisfied | `Displayed(&value)` for the member that is not a part |
-//! | `u128` is not an unsigned integer type, or `to_str` exists for `Hex<u128>`, but its trait bounds were not satisfied | `Displayed(&number)`, or in hexadecimal `Displayed(&format_args!("{number:X}"))` |
-//! | `T` is not a part, for a type parameter with `T: ToLexical` | `Decimal(value)` |
-//! | a tuple of parts with more than 12 members is not a part | tuples in a tuple |
-//! | `(String, u8)` is not a part, or `to_str` exists for `(&str, &String)`, but its trait bounds were not satisfied | `string.as_str()`, or, with the feature `alloc`, `&string` |
-//! | `to_str` exists for `Joined<'_, String>`, but its trait bounds were not satisfied | a list of `&str`: `Joined(&strings.iter().map(String::as_str).collect::<Vec<_>>(), ",")` |
-//! | `(u8, Option<String>)` is not a part | `option.as_deref()` |
-//! | cannot borrow `buffer` as mutable more than once | a buffer for each text that you keep |
-//! | no method named `write_pieces` | `use cojimuran::Show` |
-//! | no method named `append_to`, or unresolved import `cojimuran::Append` | `use cojimuran::Append`, and the feature `alloc` |
-//! | `(&str, u8)` doesn't implement `Display` | `Shown((..))` |
-//! | type alias takes 1 generic argument but 2 generic arguments were supplied | the names that you use, in place of `use cojimuran::*`, which also imports a `Result` |
-//!
 //! # Reading numbers back
 //!
 //! `parse` of the standard library reads a decimal number back, and `from_str_radix` one in another radix. They do not
@@ -186,6 +169,28 @@ mod write_integer;
 
 #[cfg(doctest)]
 mod misuse;
+
+/// A page, not a module: what to write if rustc refuses a call.
+///
+/// The message may name another method than `to_str`, or `Show` in place of a part.
+///
+/// | rustc says | write |
+/// |---|---|
+/// | `i32` is not an unsigned integer type, or `to_str` exists for `Hex<i32>`, but its trait bounds were not satisfied | an unsigned number, such as `Hex(255u8)`, or for a negative number in a radix `Formatted(number, &FORMAT)` |
+/// | `(f64, u8)` is not a part, or `to_str` exists for `(u128, &str)`, but its trait bounds were not satisfied | `Displayed(&value)` for the member that is not a part |
+/// | `u128` is not an unsigned integer type, or `to_str` exists for `Hex<u128>`, but its trait bounds were not satisfied | `Displayed(&number)`, or in hexadecimal `Displayed(&format_args!("{number:X}"))` |
+/// | `T` is not a part, for a type parameter with `T: ToLexical` | `Decimal(value)` |
+/// | a tuple of parts with more than 12 members is not a part | tuples in a tuple |
+/// | `(String, u8)` is not a part, or `to_str` exists for `(&str, &String)`, but its trait bounds were not satisfied | `string.as_str()`, or, with the feature `alloc`, `&string` |
+/// | `to_str` exists for `Joined<'_, String>`, but its trait bounds were not satisfied | a list of `&str`: `Joined(&strings.iter().map(String::as_str).collect::<Vec<_>>(), ",")` |
+/// | `(u8, Option<String>)` is not a part | `option.as_deref()` |
+/// | cannot borrow `buffer` as mutable more than once | a buffer for each text that you keep |
+/// | no method named `write_pieces` | `use cojimuran::Show` |
+/// | no method named `append_to`, or unresolved import `cojimuran::Append` | `use cojimuran::Append`, and the feature `alloc` |
+/// | `(&str, u8)` doesn't implement `Display` | `Shown((..))` |
+/// | type alias takes 1 generic argument but 2 generic arguments were supplied | the names that you use, in place of `use cojimuran::*`, which also imports a `Result` |
+#[cfg(doc)]
+pub mod compile_errors {}
 
 /// A page, not a module: how long a buffer must be, which parts are valid, and what happens otherwise.
 #[cfg(doc)]
