@@ -20,7 +20,7 @@ fn format_magnitude<'a>(sign: &str, number: u128, buffer: &'a mut [u8; 40]) -> &
     let low = low_digits(number);
     let middle = low_digits(number / TEN_19);
     let high = low_digits(number / TEN_19 / TEN_19);
-    // A `Digits` needs only its own digits, and a `u64` would need 20 bytes of the buffer.
+    // The room of a `Digits` is its number of digits, and that of a `u64` is 20.
     if high > 0 {
         let high = Digits(10, high);
         (sign, high, Padded(middle, 19), Padded(low, 19)).to_str(buffer)

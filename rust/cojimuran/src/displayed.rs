@@ -12,8 +12,7 @@ use core::fmt::{self, Display, Write};
 /// let row = (7u32, ",", Displayed(&-1.5), ",", Padded(5u8, 2));
 /// assert_eq!(row.to_str(&mut buffer), "7,-1.5,05");
 ///
-/// // With a precision or another option, by `format_args!`. Before Rust 1.89 its value lives only to the end of the
-/// // statement.
+/// // With a precision or another option, by `format_args!`. Before Rust 1.89 use it within one statement.
 /// let text = ("t=", Displayed(&format_args!("{:.3}", 0.25)), " s").to_str(&mut buffer);
 /// assert_eq!(text, "t=0.250 s");
 /// ```

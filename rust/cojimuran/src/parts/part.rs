@@ -123,8 +123,8 @@ pub trait Part: Copy {
     /// bytes or more.
     ///
     /// `std::str::from_utf8` reads the text once to check it if there is a `Displayed`, a reference to a `String` or a
-    /// part of your own in it, or if a byte or a fill in it is 128 or above. It reads a `Bytes` by itself. Other texts
-    /// need no check.
+    /// part of your own in it, or if a byte or a fill in it is 128 or above. A `Bytes` is checked alone. Other texts need
+    /// no check.
     ///
     /// # Panics
     ///
