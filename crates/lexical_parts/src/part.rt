@@ -1,6 +1,6 @@
 //! The trait that each part of a text implements.
 
-ghost use Rattle.std.specs.Prelude.{◌≡◌, ◌↔◌, ◌+◌, ◌<◌, ◌≤◌, IsTrue, List, ℕ, drop, length, min, take, ⊤};
+ghost use Rattle.std.specs.Prelude.{◌≡◌, ◌+◌, ◌<◌, ◌≤◌, IsTrue, List, ℕ, drop, length, min, take, ⊤};
 ghost use Rattle.std.specs.Prelude.{IfNone, IfSome, IsSome};
 ghost use Rattle.std.specs.Borrow.{sem};
 ghost use Rattle.lexical_write_integer.specs.Buffer.{Writes};
@@ -272,7 +272,8 @@ fn str_if_it_fits<P: Part>(part: P, buffer: &mut [u8]) -> Option<&str>
 // Returns whether the buffer has the room of the part.
 fn has_room<P: Part>(part: P, buffer: &[u8]) -> bool
     requires { P.is_valid part }
-    ensures { IsTrue result ↔ P.room part ≤ length buffer.now }
+    ensures fits { IsTrue result → P.room part ≤ length buffer.now }
+    ensures enough { P.room part ≤ length buffer.now → IsTrue result }
 {
     part.room_bound(Sealed) <= buffer.len() || part.room() <= buffer.len()
 }

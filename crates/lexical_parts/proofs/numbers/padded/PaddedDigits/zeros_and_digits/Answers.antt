@@ -1,4 +1,4 @@
-use Rattle.std.proofs.Common.{arith}
+use Rattle.std.proofs.Common.{arith, refl}
 use Rattle.lexical_write_integer.specs.DigitCount.{digit_count-le}
 use Rattle.lexical_write_integer.proofs.OfDigits.Numerals.{length-IsDigits}
 use Rattle.lexical_write_integer.proofs.OfDigits.PaddedDigits.{IsPadded-digits, padded_computed}
@@ -23,3 +23,7 @@ pub returns-clause-computed : goal.returns-clause-computed
 returns-clause-computed g c =
     let valid = c.is_known_valid_and_utf8.ensures.valid c.if-not-is_known_valid_and_utf8.false in
     (padded_computed _ _ _ _ valid.0.at_least_two valid.1).0 (returns-clause-text g c)
+
+-- the check finds this proof by itself, but with an answer the refusal of a mistake says what is wrong
+pub returns-clause-ok : goal.returns-clause-ok
+returns-clause-ok g c = (λ ok. c.is_known_valid_and_utf8.ensures.valid c.if-not-is_known_valid_and_utf8.false, λ valid. refl)
