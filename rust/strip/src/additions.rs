@@ -16,7 +16,7 @@ pub(crate) fn add(tokens: &mut [Token], file: &File) {
     }
     for at in 0..tokens.len() {
         if tokens[at].is_in(&["struct", "enum", "trait"]) {
-            let attributes = file.source.attributes_of(&[&tokens[at + 1].text]).unwrap_or_default();
+            let attributes = file.source.attributes_of_type(&tokens[at + 1].text).unwrap_or_default();
             let first = start(tokens, at);
             insert_lines(&mut tokens[first], attributes);
         }
@@ -29,8 +29,7 @@ fn inlining(tokens: &[Token], function: &Function, file: &File) -> &'static str 
     if tokens[function.body] != "{" || file.source.is_test() || is_exported {
         return "";
     }
-    let (name, file_and_name) = (function.name(tokens), format!("{}:{}", file.name, function.name(tokens)));
-    file.source.attributes_of(&[name, &file.name, &file_and_name]).unwrap_or("#[inline]")
+    file.source.attributes_of_function(function.name(tokens), &file.path).unwrap_or("#[inline]")
 }
 
 /// Returns whether the result of a function is all that it is called for.

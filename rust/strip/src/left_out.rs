@@ -69,8 +69,8 @@ pub(crate) fn without_imports(tokens: &mut Vec<Token>, file: &File, laws: &Names
     }
 }
 
-/// Leaves out names of the import that begins at an index, and each that is there a second time: `use a::{b, b_counted}`
-/// has become `use a::{b, b}`.
+/// Leaves out names of the import that begins at an index, and each that is there a second time, since
+/// `use a::{b, b_counted}` has become `use a::{b, b}`.
 fn without_names(tokens: &mut Vec<Token>, at: usize, is_left_out: impl Fn(&str) -> bool) {
     for name in (at..find(tokens, at, &[";"])).rev() {
         let text = &tokens[name].text;

@@ -12,8 +12,9 @@
 //! 6. `checks` refuses each word of Rattle that is left, and a function whose documentation says nothing of what it
 //!    requires.
 //!
-//! `sources` lists the crates, what is made of each, and the functions that the steps need to know, such as laws. What
-//! no step knows is an error with the file and the line. A rule or a listed name that is for nothing is an error too.
+//! `sources` lists the crates, what is made of each, and the names that the steps need to know, such as those of laws.
+//! What no step knows is an error with the file and the line. A rule or a listed name that is for nothing is an error
+//! too.
 
 #![forbid(unsafe_code)]
 
@@ -27,13 +28,15 @@ mod left_out;
 mod replacements;
 mod repository;
 mod rules;
+mod source;
 mod sources;
 mod tokens;
 
 use files::{files_of, laid_out, read, remove, without_layout, write};
 use repository::{File, Repository};
 use rules::Rule;
-use sources::{SOURCES, Source};
+use source::Source;
+use sources::SOURCES;
 use std::collections::BTreeMap;
 use std::path::{Path, PathBuf};
 
@@ -103,8 +106,8 @@ fn stale(top: &Path, made: &Files) -> Result<Vec<PathBuf>, String> {
 fn files_of_sources(repository: &Repository, is_source: impl Fn(&Source) -> bool) -> Result<Files, String> {
     let mut files = Files::new();
     for file in repository.files.iter().filter(|file| is_source(file.source)) {
-        if let Some(path) = file.source.path_of_made(&file.name) {
-            let from = file.path().display().to_string();
+        if let Some(path) = file.source.path_of_made(&file.path) {
+            let from = file.path_in_repository().display().to_string();
             let code = translated(file, repository).map_err(|what| format!("{from}:{what}"))?;
             files.insert(path, format!("{MADE}{from}. Edit that file, not this one.\n\n{code}"));
         }
@@ -115,7 +118,7 @@ fn files_of_sources(repository: &Repository, is_source: impl Fn(&Source) -> bool
 /// Returns the code that is made of a file, to whose tokens the rules are applied. An error begins with the line.
 fn translated(file: &File, Repository { laws, .. }: &Repository) -> Result<String, String> {
     let mut code = file.tokens.clone();
-    left_out::without_items(&mut code, &file.source.modules_left_out(), laws);
+    left_out::without_items(&mut code, &file.source.names_of_modules_left_out(), laws);
     counters::without_statements(&mut code, laws);
     counters::without_elements(&mut code);
     counters::without_counted(&mut code);

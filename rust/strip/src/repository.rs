@@ -4,11 +4,11 @@ use crate::files::{files_of, read};
 use crate::items::{declared_names, functions};
 use crate::laws::{Names, effect};
 use crate::rules::{Rule, lex_and_apply};
-use crate::sources::Source;
+use crate::source::Source;
 use crate::tokens::Token;
 use std::path::{Path, PathBuf};
 
-/// The sources of all crates, and what is known of them.
+/// The files of all crates, and what is known of them.
 #[derive(Default)]
 pub(crate) struct Repository {
     pub files: Vec<File>,
@@ -16,75 +16,88 @@ pub(crate) struct Repository {
     pub laws: Names,
 }
 
-/// A file of a crate.
+/// One file of a crate, as the steps of this program take it.
 pub(crate) struct File {
+    /// What is known of its crate.
     pub source: &'static Source,
-    /// Its path in `src`.
-    pub name: String,
-    /// What the rules have made of it.
+    /// Its path in the folder `src` of the crate, such as `digits/write.rt`.
+    pub path: String,
+    /// Its text, after the rules of `replacements` have changed it.
     pub tokens: Vec<Token>,
 }
 
+impl Repository {
+    /// Reads these crates of the repository in a folder, and applies these rules to them.
+    pub fn read(top: &Path, sources: &'static [Source], mut rules: Vec<Rule>) -> Result<Repository, String> {
+        let mut repository = Repository::default();
+        for source in sources {
+            let mut files = Vec::new();
+            for path in files_of(top, &source.folder_of_crate(), "rt")? {
+                files.push(File::read(top, source, &path, &mut rules)?);
+            }
+            check_lists(source, &files)?;
+            repository.laws.extend(files.iter().flat_map(File::laws).cloned());
+            repository.files.extend(files);
+        }
+        repository.files.iter().try_for_each(|file| file.check_names(&repository.laws))?;
+        let faults: Vec<String> = rules.iter().filter_map(Rule::fault).collect();
+        if faults.is_empty() { Ok(repository) } else { Err(faults.join("\n")) }
+    }
+}
+
+/// Returns an error if the lists of a crate name what its files do not have.
+fn check_lists(source: &Source, files: &[File]) -> Result<(), String> {
+    let known: Names = files.iter().flat_map(File::names_for_lists).collect();
+    let unknown = source.listed_names().find(|name| !known.contains(*name));
+    unknown.map_or(Ok(()), |name| Err(format!("{}: it has no {name}", source.name)))
+}
+
 impl File {
-    /// Reads the file of a crate at a path in the repository, and applies these rules to it.
+    /// Reads a file at a path in the repository, and applies these rules to it.
     fn read(top: &Path, source: &'static Source, path: &Path, rules: &mut [Rule]) -> Result<File, String> {
-        let name = path.strip_prefix(source.folder_of_crate()).unwrap_or(path).to_string_lossy().into_owned();
-        let place = [source.package, source.name, &format!("{}/{name}", source.name)];
+        let in_crate = path.strip_prefix(source.folder_of_crate()).unwrap_or(path).to_string_lossy().into_owned();
+        let place = [source.package, source.name, &format!("{}/{in_crate}", source.name)];
         let tokens = lex_and_apply(&read(&top.join(path))?, place, rules);
-        Ok(File { source, name, tokens: tokens.map_err(|what| format!("{}:{what}", path.display()))? })
+        let tokens = tokens.map_err(|what| format!("{}:{what}", path.display()))?;
+        let file = File { source, path: in_crate, tokens };
+        file.check_laws().map(|()| file)
     }
 
-    /// Returns what a list can name: the file, its module, and what it declares, alone or as `FILE:NAME`.
+    pub fn path_in_repository(&self) -> PathBuf {
+        self.source.folder_of_crate().join(&self.path)
+    }
+
+    /// Returns what a list can name: the file, its module, and what it declares, as `NAME` and as `FILE:NAME`.
     fn names_for_lists(&self) -> impl Iterator<Item = String> {
         let declares = |pair: &&[Token]| pair[0].is_in(&["fn", "const", "struct", "enum", "trait"]);
         let declared = self.tokens.windows(2).filter(declares).map(|pair| &pair[1].text);
-        let names = declared.flat_map(|name| [name.clone(), format!("{}:{name}", self.name)]);
-        names.chain([self.name.clone(), self.name.trim_end_matches(".rt").to_owned()])
+        let names = declared.flat_map(|name| [name.clone(), format!("{}:{name}", self.path)]);
+        names.chain([self.path.clone(), self.path.trim_end_matches(".rt").to_owned()])
+    }
+
+    /// Returns the names of its functions and constants that are left out as laws.
+    fn laws(&self) -> impl Iterator<Item = &String> {
+        declared_names(&self.tokens).filter(|name| self.source.is_law(name, &self.path))
     }
 
     /// Returns an error if a function that is listed as a law does more than a law, because that would be lost.
     fn check_laws(&self) -> Result<(), String> {
         for function in functions(&self.tokens) {
             let (name, line) = (function.name(&self.tokens), self.tokens[function.at].line);
-            let effect = effect(&self.tokens, &function).filter(|_| self.source.is_law(name, &self.name));
+            let effect = effect(&self.tokens, &function).filter(|_| self.source.is_law(name, &self.path));
             if let Some(effect) = effect {
-                return Err(format!("{}:{line}: {name} is listed as a law, and {effect}", self.path().display()));
+                let path = self.path_in_repository();
+                return Err(format!("{}:{line}: {name} is listed as a law, and {effect}", path.display()));
             }
         }
         Ok(())
     }
 
-    /// Returns its path in the repository.
-    pub fn path(&self) -> PathBuf {
-        self.source.folder_of_crate().join(&self.name)
-    }
-}
-
-impl Repository {
-    /// Reads the crates of the repository in a folder, and applies these rules to them.
-    pub fn read(top: &Path, sources: &'static [Source], mut rules: Vec<Rule>) -> Result<Repository, String> {
-        let mut repository = Repository::default();
-        for source in sources {
-            let mut known = Names::new();
-            for path in files_of(top, &source.folder_of_crate(), "rt")? {
-                let file = File::read(top, source, &path, &mut rules)?;
-                file.check_laws()?;
-                let is_law = |name: &&String| source.is_law(name, &file.name);
-                repository.laws.extend(declared_names(&file.tokens).filter(is_law).cloned());
-                known.extend(file.names_for_lists());
-                repository.files.push(file);
-            }
-            if let Some(name) = source.listed_names().find(|name| !known.contains(*name)) {
-                return Err(format!("{}: it has no {name}", source.name));
-            }
-        }
-        for file in &repository.files {
-            let is_other = |name: &&String| repository.laws.contains(*name) && !file.source.is_law(name, &file.name);
-            if let Some(name) = declared_names(&file.tokens).find(is_other) {
-                return Err(format!("{}: {name} is also the name of a law", file.path().display()));
-            }
-        }
-        let faults: Vec<String> = rules.iter().filter_map(Rule::fault).collect();
-        if faults.is_empty() { Ok(repository) } else { Err(faults.join("\n")) }
+    /// Returns an error if it declares the name of a law for something else, whose calls would be left out too.
+    fn check_names(&self, laws: &Names) -> Result<(), String> {
+        let is_other = |name: &&String| laws.contains(*name) && !self.source.is_law(name, &self.path);
+        let other = declared_names(&self.tokens).find(is_other);
+        let path = self.path_in_repository();
+        other.map_or(Ok(()), |name| Err(format!("{}: {name} is also the name of a law", path.display())))
     }
 }

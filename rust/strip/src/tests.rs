@@ -2,7 +2,8 @@
 
 use crate::repository::{File, Repository};
 use crate::rules::{Rule, lex_and_apply};
-use crate::sources::{SOURCES, Source};
+use crate::source::Source;
+use crate::sources::SOURCES;
 use crate::tokens::{lex, print, words};
 use crate::{Files, MADE, files, stale, translated};
 use std::path::{Path, PathBuf};
@@ -19,7 +20,7 @@ fn made(text: &str) -> Result<String, String> {
     let mut repository = Repository::default();
     repository.laws.extend(["in_range", "fits_bits", "DECIMAL"].map(str::to_owned));
     let tokens = lex_and_apply(text, [source.package, source.name, "lexical_write_integer/a.rt"], &mut Rule::all())?;
-    translated(&File { source, name: "a.rt".to_owned(), tokens }, &repository)
+    translated(&File { source, path: "a.rt".to_owned(), tokens }, &repository)
 }
 
 /// Returns the tokens of a text without its comments.
@@ -262,16 +263,16 @@ fn a_rule_or_a_name_of_a_list_that_is_for_nothing_is_refused() {
 #[test]
 fn no_comment_and_no_layout_of_a_source_decides() {
     let (repository, mut rules) = (Repository::read(top(), SOURCES, Rule::all()).unwrap(), Rule::all());
-    for file in repository.files.iter().filter(|file| file.source.path_of_made(&file.name).is_some()) {
-        let mut other = lex(&files::read(&top().join(file.path())).unwrap()).unwrap();
+    for file in repository.files.iter().filter(|file| file.source.path_of_made(&file.path).is_some()) {
+        let mut other = lex(&files::read(&top().join(file.path_in_repository())).unwrap()).unwrap();
         for (at, token) in other.iter_mut().enumerate() {
             token.before = if at % 5 == 0 { "\n// ghost requires { #[cold]\n" } else { "\n" }.to_owned();
             token.after.clear();
         }
-        let place = [file.source.package, file.source.name, &format!("{}/{}", file.source.name, file.name)];
+        let place = [file.source.package, file.source.name, &format!("{}/{}", file.source.name, file.path)];
         let tokens = lex_and_apply(&print(&other), place, &mut rules).unwrap();
-        let other = File { name: file.name.clone(), tokens, ..*file };
+        let other = File { path: file.path.clone(), tokens, ..*file };
         let made = |file| code(&translated(file, &repository).unwrap());
-        assert_eq!(made(file), made(&other), "{}", file.path().display());
+        assert_eq!(made(file), made(&other), "{}", file.path_in_repository().display());
     }
 }
