@@ -1,8 +1,10 @@
-//! What the tests of the repository share: what stands for the runtime of Rattle, each part, parts in format strings,
-//! random numbers, and the search for names in sources.
+//! What the tests of the repository share: calls that may panic, the panics that documentation names, parts in format
+//! strings, each part, random numbers, what stands for the runtime of Rattle, and the search for names in sources.
 
+pub mod calls;
+pub mod documented_panics;
 pub mod formats;
-pub mod names;
 pub mod parts;
 pub mod random;
 pub mod runtime;
+pub mod sources;

@@ -6,6 +6,7 @@ use cojimuran::{Buffer, NumberFormatBuilder};
 use repository_tests::each_part;
 use repository_tests::parts::Values;
 use repository_tests::random::Random;
+use repository_tests::sources::{has_word, texts_of_cojimuran};
 use std::panic::{AssertUnwindSafe, catch_unwind, set_hook};
 use std::str::from_utf8;
 
@@ -122,4 +123,12 @@ fn bad_bytes_never_become_a_str() {
     // The halves of a character are UTF-8 together.
     assert_eq!((Byte(0xC3), Byte(0xA9)).to_str(&mut [0; 2]), "é");
     assert_eq!((OwnBytes(&[0xC3]), Bytes(&[0xA9])).to_str(&mut [0; 2]), "é");
+}
+
+/// Only this line could make a `&str` of other bytes.
+#[test]
+fn one_line_is_unsafe() {
+    let sources = texts_of_cojimuran();
+    let lines = sources.iter().flat_map(|source| source.lines()).filter(|line| has_word(line, "unsafe"));
+    assert_eq!(lines.map(str::trim).collect::<Vec<_>>(), ["unsafe { from_utf8_unchecked(text) }"]);
 }

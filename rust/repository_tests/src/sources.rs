@@ -1,10 +1,11 @@
-//! The sources of the package, and the search for names in them, as whole words: `Hex` is not in `FullHex(5)`.
+//! The sources of the package `cojimuran`, and the search for names in them, as whole words: `Hex` is not in
+//! `FullHex(5)`.
 
 use std::fs;
 use std::path::{Path, PathBuf};
 
 /// Returns the text of each source of the package.
-pub fn sources() -> Vec<String> {
+pub fn texts_of_cojimuran() -> Vec<String> {
     let paths = paths_in(&Path::new(env!("CARGO_MANIFEST_DIR")).join("../cojimuran/src"));
     paths.iter().map(|path| fs::read_to_string(path).unwrap()).collect()
 }

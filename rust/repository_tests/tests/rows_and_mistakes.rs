@@ -1,14 +1,6 @@
-//! What the sources of the package have: one line that is `unsafe`, a row in the table of parts for each part, and a
-//! mistake for each module of parts.
+//! Each part that the package exports has a row in the table `src/parts.rs`, and each module of parts has a mistake.
 
-use repository_tests::names::{calls, has_word, sources};
-
-#[test]
-fn one_line_is_unsafe() {
-    let sources = sources();
-    let lines = sources.iter().flat_map(|source| source.lines()).filter(|line| has_word(line, "unsafe"));
-    assert_eq!(lines.map(str::trim).collect::<Vec<_>>(), ["unsafe { from_utf8_unchecked(text) }"]);
-}
+use repository_tests::sources::calls;
 
 /// Returns each module of parts that exports something, and the names that it exports.
 fn exports_of_parts() -> Vec<(&'static str, &'static str)> {

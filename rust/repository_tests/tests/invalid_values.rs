@@ -1,0 +1,43 @@
+//! Radices that are invalid, and numbers that are longer than their width. Each call panics or returns within a second,
+//! and changes no byte outside of its buffer.
+
+use cojimuran::compact::Compact;
+use cojimuran::digit_count::DigitCount;
+use cojimuran::padded::write_padded;
+use cojimuran::radix::Radix;
+use cojimuran::write::WriteInteger;
+use cojimuran::{Digits, Padded, PaddedDigits, Part, table};
+use repository_tests::calls::{check_in_time, with_buffer};
+use std::panic::catch_unwind;
+
+#[test]
+fn invalid_radices_of_numbers() {
+    check_in_time("a radix", 10, || {
+        for radix in [0, 1, 37, 128, 255, 256, 65536, 2147483647, u32::MAX] {
+            drop(catch_unwind(|| u64::MAX.digit_count(radix)));
+            drop(catch_unwind(|| u8::MAX.slow_digit_count(radix)));
+            drop(catch_unwind(|| u64::MAX.slow_digit_count(radix)));
+            drop(catch_unwind(|| table::get_table(radix).len()));
+            with_buffer(128, |buffer| write_padded(u64::MAX, radix, buffer));
+            with_buffer(128, |buffer| u64::MAX.write_integer(radix, buffer));
+            with_buffer(128, |buffer| u64::MAX.write_integer_signed(radix, buffer));
+            with_buffer(128, |buffer| u64::MAX.radix(radix, buffer));
+            with_buffer(128, |buffer| u64::MAX.compact(radix, buffer));
+            with_buffer(128, |buffer| Digits(radix, u64::MAX).to_text(buffer).len());
+            with_buffer(128, |buffer| PaddedDigits(radix, u64::MAX, 90).to_text(buffer).len());
+        }
+    });
+}
+
+#[test]
+fn numbers_above_their_width() {
+    check_in_time("a width", 10, || {
+        for width in 0..20 {
+            with_buffer(width, |buffer| write_padded(u64::MAX, 10, buffer));
+            with_buffer(40, |buffer| Padded(u32::MAX, width).to_text(buffer).len());
+        }
+        with_buffer(19, |buffer| u64::MAX.write_integer_signed(10, buffer));
+        // Only the number 0 has no digits in no width.
+        assert_eq!((write_padded(0u8, 16, &mut []), write_padded(0u8, 10, &mut [])), (0, 0));
+    });
+}
