@@ -1,15 +1,12 @@
 //! `Scientific` against `{:e}` of the standard library. The test of the same name in
-//! `crates/uses/src/tests/scientific.rt`, which cannot call `{:e}`, makes the same numbers, and compares the sums of
-//! their texts.
+//! `crates/uses/src/tests/scientific.rt`, which cannot call `{:e}`, makes the same numbers, and has the sums of their
+//! texts, with which the sums of the texts of `{:e}` are compared here.
 
 use cojimuran::{Part, Scientific};
 use repository_tests::random::Random;
 
 /// How many numbers of each kind there are.
 const ROWS: usize = 10_000;
-
-/// The sums of the texts of all numbers without a sign, with a sign, and of all floats.
-const SUMS: [u64; 3] = [17568205989486067703, 10332201674773152855, 12453350763887842918];
 
 /// Returns a number of any length, of which one in two has zeros at the end.
 fn number(random: &mut Random) -> u64 {
@@ -47,13 +44,9 @@ fn numbers_as_rust_writes_them() {
         check(Scientific(signed, 0), &format!("{signed:e}"), &mut signed_sum);
         check(Scientific(digits, exponent), &format!("{float:e}"), &mut float_sum);
     }
-    assert_eq!([unsigned_sum, signed_sum, float_sum], SUMS);
-}
-
-#[test]
-fn the_proved_test_has_the_same_sums() {
-    let there = include_str!("../../../crates/uses/src/tests/scientific.rt");
-    for (name, sum) in ["unsigned", "signed", "floats"].iter().zip(SUMS) {
-        assert!(there.contains(&format!("check(&rt, {name}, {sum});")), "{name}");
+    let proved_test = include_str!("../../../crates/uses/src/tests/scientific.rt");
+    for (name, sum) in [("unsigned", unsigned_sum), ("signed", signed_sum), ("floats", float_sum)] {
+        let line = format!("check(&rt, {name}, {sum});");
+        assert!(proved_test.contains(&line), "scientific.rt has no line {line}");
     }
 }
