@@ -1,4 +1,6 @@
-//! The names of the package, and the traits of its types: a caller that takes one does not compile without it.
+//! Compares what the packages `cojimuran` and `lexwrite` export with what their users may rely on, as it stands here:
+//! the names that the imports list, and the traits that each type implements. Without one of them this file does not
+//! compile. Only `formats` runs something: it compares the defaults.
 
 #![allow(unused_imports, reason = "what is not there is an error")]
 
@@ -26,45 +28,47 @@ use std::fmt::Debug;
 use std::hash::Hash;
 use std::panic::{RefUnwindSafe, UnwindSafe};
 
-fn value<T: Copy + Debug + Send + Sync + Unpin + UnwindSafe + RefUnwindSafe + 'static>() {}
-fn number<T: ToLexicalWithOptions<Options = Options> + FormattedSize + Part>() {}
-fn unsigned<T: UnsignedInteger + Radix + Compact + DigitCount + WriteInteger + DecimalCount>() {}
+// A call of such a function compiles only if the type has these traits. It does nothing.
 
-/// Calls the function for each of the types.
-macro_rules! check {
+fn is_value<T: Copy + Debug + Send + Sync + Unpin + UnwindSafe + RefUnwindSafe + 'static>() {}
+fn is_number<T: ToLexicalWithOptions<Options = Options> + FormattedSize + Part>() {}
+fn is_unsigned<T: UnsignedInteger + Radix + Compact + DigitCount + WriteInteger + DecimalCount>() {}
+
+/// Calls such a function for each of the types.
+macro_rules! each {
     ($function:ident: $($type:ty),+) => { $($function::<$type>();)+ };
 }
 
 #[test]
 fn numbers() {
-    check!(number: u8, u16, u32, u64, usize, i8, i16, i32, i64, isize);
-    check!(unsigned: u8, u16, u32, u64, usize);
+    each!(is_number: u8, u16, u32, u64, usize, i8, i16, i32, i64, isize);
+    each!(is_unsigned: u8, u16, u32, u64, usize);
 }
 
 #[test]
 fn formats() {
-    fn ordered<T: Copy + Debug + Ord + Default + Send + Sync>() {}
-    fn hashed<T: Eq + Hash>() {}
-    fn error<E: std::error::Error + Copy + Eq + Hash + Send + Sync + 'static>() {}
-    fn options<T: WriteOptions>() {}
-    check!(value: NumberFormat, NumberFormatBuilder);
-    check!(hashed: NumberFormat, NumberFormatBuilder);
-    check!(ordered: Options, OptionsBuilder);
-    error::<Error>();
-    options::<Options>();
+    fn is_ordered<T: Copy + Debug + Ord + Default + Send + Sync>() {}
+    fn is_hashed<T: Eq + Hash>() {}
+    fn is_error<E: std::error::Error + Copy + Eq + Hash + Send + Sync + 'static>() {}
+    fn is_options<T: WriteOptions>() {}
+    each!(is_value: NumberFormat, NumberFormatBuilder);
+    each!(is_hashed: NumberFormat, NumberFormatBuilder);
+    each!(is_ordered: Options, OptionsBuilder);
+    is_error::<Error>();
+    is_options::<Options>();
     assert_eq!((NumberFormatBuilder::default().build().unwrap(), NumberFormat::default()), (STANDARD, STANDARD));
     let _: Result<NumberFormat> = Err(Error::InvalidGroupMark(b'0'));
 }
 
 #[test]
 fn devices() {
-    fn source<S: BlockSource + Debug + Send>() {}
-    fn sink<K: BlockSink + Debug + Send>() {}
-    fn bytes<S: ByteSource + Debug, K: ByteSink + Debug>() {}
-    fn shown<T: Debug>() {}
-    shown::<Answerer>();
-    source::<Reading<&[u8]>>();
-    sink::<Writing<Vec<u8>>>();
-    bytes::<SliceSource, SliceSink>();
-    bytes::<SliceSource, BlockWriter<Writing<Vec<u8>>, 16>>();
+    fn is_source<S: BlockSource + Debug + Send>() {}
+    fn is_sink<K: BlockSink + Debug + Send>() {}
+    fn are_of_bytes<S: ByteSource + Debug, K: ByteSink + Debug>() {}
+    fn has_debug<T: Debug>() {}
+    has_debug::<Answerer>();
+    is_source::<Reading<&[u8]>>();
+    is_sink::<Writing<Vec<u8>>>();
+    are_of_bytes::<SliceSource, SliceSink>();
+    are_of_bytes::<SliceSource, BlockWriter<Writing<Vec<u8>>, 16>>();
 }
