@@ -1,5 +1,6 @@
 //! Calls that panic in every build, since they would otherwise return a wrong result. The message of each names the
-//! condition that does not hold. Each condition that documentation names has such a call, here or in `short_buffers.rs`.
+//! condition that does not hold. Each condition that documentation names has such a call, here or in
+//! `short_buffers.rs`.
 
 use cojimuran::algorithm::algorithm;
 use cojimuran::compact::Compact;
