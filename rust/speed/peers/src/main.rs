@@ -39,8 +39,8 @@ const RADICES: [NumberFormat; 37] = {
 /// Writes each number to an array, and returns how many bytes that were.
 type Loop = fn(&[u64]) -> usize;
 
-/// Returns a loop over numbers of a type, which is a function of its own.
-macro_rules! each {
+/// Returns a loop over numbers of a type, each of which a call writes to a buffer. It is a function of its own.
+macro_rules! loop_with_buffer {
     ($number:ty, |$value:ident, $buffer:ident| $call:expr) => {{
         #[inline(never)]
         #[allow(unused_mut, reason = "some calls take no buffer")]
@@ -57,17 +57,17 @@ macro_rules! each {
     }};
 }
 
-/// Returns a loop that takes the result of an expression without a buffer, and counts its bytes.
-macro_rules! taken {
+/// Returns a loop over numbers of a type, of each of which an expression is the text. It counts the bytes of the texts.
+macro_rules! loop_of_texts {
     ($number:ty, |$value:ident| $text:expr) => {
-        each!($number, |$value, b| black_box($text).len() + usize::from(b[0]))
+        loop_with_buffer!($number, |$value, b| black_box($text).len() + usize::from(b[0]))
     };
 }
 
-/// Returns a loop of the standard library.
-macro_rules! std {
+/// Returns a loop by `write!` of the standard library.
+macro_rules! loop_by_write {
     ($number:ty, |$value:ident| $($text:tt)*) => {
-        each!($number, |$value, buffer| {
+        loop_with_buffer!($number, |$value, buffer| {
             let mut rest = &mut buffer[..];
             write!(rest, $($text)*).unwrap();
             128 - rest.len()
@@ -75,8 +75,8 @@ macro_rules! std {
     };
 }
 
-/// Returns a loop that appends to a `Vec`, which is empty again after some bytes.
-macro_rules! append {
+/// Returns a loop that appends numbers to a `Vec`, which is empty again after some bytes.
+macro_rules! loop_to_vec {
     ($number:ty, |$value:ident, $bytes:ident| $call:expr) => {{
         #[inline(never)]
         fn each(numbers: &[u64]) -> usize {
@@ -98,7 +98,7 @@ macro_rules! append {
 
 /// Returns a loop over groups of numbers, each of which is written to a `String`, which is empty again after some
 /// bytes.
-macro_rules! lines {
+macro_rules! loop_to_string {
     ($count:literal, |$numbers:ident, $text:ident| $call:expr) => {{
         #[inline(never)]
         fn each(numbers: &[u64]) -> usize {
@@ -157,13 +157,15 @@ fn join_by_std(numbers: &[u64], text: &mut String) {
     }
 }
 
-/// Returns the loop of this package and the one of `lexical-write-integer` in a radix.
-macro_rules! radix {
+/// Returns the loops of this package and of `lexical-write-integer` in a radix.
+macro_rules! loops_in_radix {
     ($radix:literal) => {{
         const FORMAT: u128 = lexical::NumberFormatBuilder::from_radix($radix);
         (
-            each!(u64, |n, b| n.to_lexical_with_options(&mut b, const { &RADICES[$radix] }, &Options::new()).len()),
-            each!(u64, |n, b| {
+            loop_with_buffer!(u64, |n, b| n
+                .to_lexical_with_options(&mut b, const { &RADICES[$radix] }, &Options::new())
+                .len()),
+            loop_with_buffer!(u64, |n, b| {
                 let options = lexical::Options::new();
                 lexical::ToLexicalWithOptions::to_lexical_with_options::<FORMAT>(n, &mut b, &options).len()
             }),
@@ -172,26 +174,26 @@ macro_rules! radix {
 }
 
 /// Returns the row of numbers of a type in decimal, which are written as a `&str`.
-macro_rules! str {
+macro_rules! row_of_str {
     ($name:literal, $number:ty, |$value:ident| $made:expr) => {
         Row {
             name: $name,
-            here: taken!($number, |$value| Buffer::new().format($made)),
-            others: vec![(ITOA, taken!($number, |$value| itoa::Buffer::new().format($made)))],
+            here: loop_of_texts!($number, |$value| Buffer::new().format($made)),
+            others: vec![(ITOA, loop_of_texts!($number, |$value| itoa::Buffer::new().format($made)))],
         }
     };
 }
 
-/// Returns the row of a type in decimal.
-macro_rules! decimal {
+/// Returns the row of numbers of a type in decimal, which are written as bytes.
+macro_rules! row_of_bytes {
     ($name:literal, $number:ty) => {
         Row {
             name: $name,
-            here: each!($number, |n, b| n.to_lexical(&mut b).len()),
+            here: loop_with_buffer!($number, |n, b| n.to_lexical(&mut b).len()),
             others: vec![
-                (LEXICAL, each!($number, |n, b| lexical::ToLexical::to_lexical(n, &mut b).len())),
-                (ITOA, taken!($number, |n| itoa::Buffer::new().format(n))),
-                (WRITE, std!($number, |n| "{n}")),
+                (LEXICAL, loop_with_buffer!($number, |n, b| lexical::ToLexical::to_lexical(n, &mut b).len())),
+                (ITOA, loop_of_texts!($number, |n| itoa::Buffer::new().format(n))),
+                (WRITE, loop_by_write!($number, |n| "{n}")),
             ],
         }
     };
@@ -213,47 +215,47 @@ fn row(name: &'static str, here: Loop, others: &[(&'static str, Loop)]) -> Row {
 }
 
 fn rows_of_numbers() -> Vec<Row> {
-    let (here_8, lexical_8) = radix!(8);
-    let (here_16, lexical_16) = radix!(16);
-    let (here_36, lexical_36) = radix!(36);
-    let to_str_36 = each!(u64, |n, b| Digits(36, n).to_str(&mut b).len());
-    let lower_16 = taken!(u64, |n| Lower(Hex(n)).to_str(&mut [0; 16]));
-    let lower_36 = taken!(u64, |n| Lower(Digits(36, n)).to_str(&mut [0; 13]));
-    let groups = each!(u64, |n, b| Formatted(n, &THOUSANDS).to_str(&mut b).len());
-    let groups_by_num_format = each!(u64, |n, b| {
+    let (here_8, lexical_8) = loops_in_radix!(8);
+    let (here_16, lexical_16) = loops_in_radix!(16);
+    let (here_36, lexical_36) = loops_in_radix!(36);
+    let to_str_36 = loop_with_buffer!(u64, |n, b| Digits(36, n).to_str(&mut b).len());
+    let lower_16 = loop_of_texts!(u64, |n| Lower(Hex(n)).to_str(&mut [0; 16]));
+    let lower_36 = loop_of_texts!(u64, |n| Lower(Digits(36, n)).to_str(&mut [0; 13]));
+    let groups = loop_with_buffer!(u64, |n, b| Formatted(n, &THOUSANDS).to_str(&mut b).len());
+    let groups_by_num_format = loop_with_buffer!(u64, |n, b| {
         let mut text = num_format::Buffer::new();
         text.write_formatted(&n, &num_format::Locale::en) + usize::from(black_box(text.as_bytes())[0] & b[0])
     });
-    let example = taken!(u64, |n| example::format_u128(with_128_bits(n), &mut [0; 40]));
-    let displayed = taken!(u64, |n| Displayed(&with_128_bits(n)).to_str(&mut [0; 40]));
-    let itoa_128 = taken!(u64, |n| itoa::Buffer::new().format(with_128_bits(n)));
-    let write_128 = std!(u64, |n| "{}", with_128_bits(n));
-    let radix_fmt_36 = std!(u64, |n| "{:#}", radix_fmt::radix_36(n));
+    let example = loop_of_texts!(u64, |n| example::format_u128(with_128_bits(n), &mut [0; 40]));
+    let displayed = loop_of_texts!(u64, |n| Displayed(&with_128_bits(n)).to_str(&mut [0; 40]));
+    let itoa_128 = loop_of_texts!(u64, |n| itoa::Buffer::new().format(with_128_bits(n)));
+    let write_128 = loop_by_write!(u64, |n| "{}", with_128_bits(n));
+    let radix_fmt_36 = loop_by_write!(u64, |n| "{:#}", radix_fmt::radix_36(n));
     let rows = [
-        str!("a `u64` as a `&str`", u64, |n| n),
-        str!("a `u64` of 3 digits as a `&str`", u64, |n| 100 + (n & 511)),
-        str!("a `u64` of 20 digits as a `&str`", u64, |n| n | 3 << 62),
-        str!("an `i64` that is not negative, as a `&str`", i64, |n| n & i64::MAX),
-        str!("an `i32` as a `&str`", i32, |n| n),
-        decimal!("a `u64` as bytes", u64),
-        decimal!("a `u32` as bytes", u32),
-        decimal!("a `u8` as bytes", u8),
-        decimal!("an `i64` as bytes", i64),
-        decimal!("an `i32` as bytes", i32),
-        decimal!("an `i8` as bytes", i8),
+        row_of_str!("a `u64` as a `&str`", u64, |n| n),
+        row_of_str!("a `u64` of 3 digits as a `&str`", u64, |n| 100 + (n & 511)),
+        row_of_str!("a `u64` of 20 digits as a `&str`", u64, |n| n | 3 << 62),
+        row_of_str!("an `i64` that is not negative, as a `&str`", i64, |n| n & i64::MAX),
+        row_of_str!("an `i32` as a `&str`", i32, |n| n),
+        row_of_bytes!("a `u64` as bytes", u64),
+        row_of_bytes!("a `u32` as bytes", u32),
+        row_of_bytes!("a `u8` as bytes", u8),
+        row_of_bytes!("an `i64` as bytes", i64),
+        row_of_bytes!("an `i32` as bytes", i32),
+        row_of_bytes!("an `i8` as bytes", i8),
         row("a `u64` in groups of three", groups, &[("`num-format`", groups_by_num_format)]),
         row(
             "a `u64` in radix 8, by a constant format",
             here_8,
-            &[(LEXICAL, lexical_8), (WRITE, std!(u64, |n| "{n:o}"))],
+            &[(LEXICAL, lexical_8), (WRITE, loop_by_write!(u64, |n| "{n:o}"))],
         ),
         row(
             "a `u64` in radix 16, by a constant format",
             here_16,
-            &[(LEXICAL, lexical_16), (WRITE, std!(u64, |n| "{n:X}"))],
+            &[(LEXICAL, lexical_16), (WRITE, loop_by_write!(u64, |n| "{n:X}"))],
         ),
-        row("the same by `Hex`", each!(u64, |n, b| Hex(n).write_to(&mut b)), &[]),
-        row("the same in lowercase, by `Lower(Hex)`", lower_16, &[(WRITE, std!(u64, |n| "{n:x}"))]),
+        row("the same by `Hex`", loop_with_buffer!(u64, |n, b| Hex(n).write_to(&mut b)), &[]),
+        row("the same in lowercase, by `Lower(Hex)`", lower_16, &[(WRITE, loop_by_write!(u64, |n| "{n:x}"))]),
         row(
             "a `u64` in radix 36, by a constant format",
             here_36,
@@ -271,8 +273,8 @@ fn rows_of_numbers() -> Vec<Row> {
 #[cfg(feature = "format_into")]
 fn with_format_into(mut row: Row) -> Row {
     let found = match row.name {
-        "a `u64` as a `&str`" => taken!(u64, |n| n.format_into(&mut core::fmt::NumBuffer::new())),
-        "an `i32` as a `&str`" => taken!(i32, |n| n.format_into(&mut core::fmt::NumBuffer::new())),
+        "a `u64` as a `&str`" => loop_of_texts!(u64, |n| n.format_into(&mut core::fmt::NumBuffer::new())),
+        "an `i32` as a `&str`" => loop_of_texts!(i32, |n| n.format_into(&mut core::fmt::NumBuffer::new())),
         _ => return row,
     };
     row.others.push(("`format_into`", found));
@@ -285,31 +287,34 @@ fn with_format_into(row: Row) -> Row {
 }
 
 fn rows_of_lines() -> Vec<Row> {
-    let shown = each!(u64, |n, b| write!(&mut b[..], "{}", Decimal(n)).map_or(0, |()| 1));
-    let str_line = each!(u64, |n, b| line(n).to_str(&mut b).len());
-    let write_line = std!(u64, |n| "id={n} flags=0x{:X}", n as u16);
-    let shown_line = each!(u64, |n, b| write!(&mut b[..], "{}", Shown(line(n))).map_or(0, |()| 1));
-    let vec = append!(u64, |n, bytes| bytes.extend_from_slice(n.to_lexical(&mut [0; 20])));
+    let shown = loop_with_buffer!(u64, |n, b| write!(&mut b[..], "{}", Decimal(n)).map_or(0, |()| 1));
+    let str_line = loop_with_buffer!(u64, |n, b| line(n).to_str(&mut b).len());
+    let write_line = loop_by_write!(u64, |n| "id={n} flags=0x{:X}", n as u16);
+    let shown_line = loop_with_buffer!(u64, |n, b| write!(&mut b[..], "{}", Shown(line(n))).map_or(0, |()| 1));
+    let vec = loop_to_vec!(u64, |n, bytes| bytes.extend_from_slice(n.to_lexical(&mut [0; 20])));
     let vec_by_others = [
-        (LEXICAL, append!(u64, |n, bytes| bytes.extend_from_slice(lexical::ToLexical::to_lexical(n, &mut [0; 20])))),
-        (ITOA, append!(u64, |n, bytes| bytes.extend_from_slice(itoa::Buffer::new().format(n).as_bytes()))),
-        (WRITE, append!(u64, |n, bytes| write!(bytes, "{n}").unwrap())),
+        (
+            LEXICAL,
+            loop_to_vec!(u64, |n, bytes| bytes.extend_from_slice(lexical::ToLexical::to_lexical(n, &mut [0; 20]))),
+        ),
+        (ITOA, loop_to_vec!(u64, |n, bytes| bytes.extend_from_slice(itoa::Buffer::new().format(n).as_bytes()))),
+        (WRITE, loop_to_vec!(u64, |n, bytes| write!(bytes, "{n}").unwrap())),
     ];
-    let joined = lines!(8, |numbers, text| text.push_str((Joined(numbers, ","), ",").to_str(&mut [0; 168])));
+    let joined = loop_to_string!(8, |numbers, text| text.push_str((Joined(numbers, ","), ",").to_str(&mut [0; 168])));
     let joined_by_others = [
-        (ITOA, lines!(8, |numbers, text| join_by_itoa(numbers, &mut text))),
-        (WRITE, lines!(8, |numbers, text| join_by_std(numbers, &mut text))),
+        (ITOA, loop_to_string!(8, |numbers, text| join_by_itoa(numbers, &mut text))),
+        (WRITE, loop_to_string!(8, |numbers, text| join_by_std(numbers, &mut text))),
     ];
     let csv_by_others = [
-        (ITOA, lines!(4, |numbers, text| join_by_itoa(numbers, &mut text))),
-        (WRITE, lines!(4, |n, text| writeln!(text, "{},{},{},{}", n[0], n[1], n[2], n[3]).unwrap())),
+        (ITOA, loop_to_string!(4, |numbers, text| join_by_itoa(numbers, &mut text))),
+        (WRITE, loop_to_string!(4, |n, text| writeln!(text, "{},{},{},{}", n[0], n[1], n[2], n[3]).unwrap())),
     ];
-    let str_csv = lines!(4, |numbers, text| text.push_str(csv(numbers).to_str(&mut [0; 84])));
-    let append_csv = lines!(4, |numbers, text| csv(numbers).append_to(&mut text));
-    let pieces_csv = lines!(4, |numbers, text| csv(numbers).write_pieces(&mut text).unwrap());
-    let buffer_csv = lines!(4, |numbers, text| join_by_buffer(numbers, &mut text));
+    let str_csv = loop_to_string!(4, |numbers, text| text.push_str(csv(numbers).to_str(&mut [0; 84])));
+    let append_csv = loop_to_string!(4, |numbers, text| csv(numbers).append_to(&mut text));
+    let pieces_csv = loop_to_string!(4, |numbers, text| csv(numbers).write_pieces(&mut text).unwrap());
+    let buffer_csv = loop_to_string!(4, |numbers, text| join_by_buffer(numbers, &mut text));
     vec![
-        row("`{}` of a `u64`, by `Decimal`", shown, &[(WRITE, std!(u64, |n| "{n}"))]),
+        row("`{}` of a `u64`, by `Decimal`", shown, &[(WRITE, loop_by_write!(u64, |n| "{n}"))]),
         row("a line `id=N flags=0xM`, M of 16 bits, by `to_str` of a tuple", str_line, &[(WRITE, write_line)]),
         row("`{}` of that line, by `Shown`", shown_line, &[]),
         row("a `u64` to the end of a `Vec`", vec, &vec_by_others),
