@@ -8,23 +8,31 @@ build_archive() (cd /proc && "$1/rust/lexical_c/archive" ${TARGET:+--target "$TA
 # debugger reads, which names the folder of the sources.
 archives_the_same() {
   export RUSTFLAGS=-g
-  build_archive "$copy" && mv "$work/again/liblexical_c.a" "$work/with_g.a" && build_archive "$crate/../.." &&
-    cmp "$work/again/liblexical_c.a" "$work/with_g.a" && fails cmp -s "$work/with_g.a" "$library"
+  build_archive "$copy" || stop 'the archive of the copy'
+  mv "$work/again/liblexical_c.a" "$work/with_g.a" || stop 'its file'
+  build_archive "$crate/../.." || stop 'the archive of the sources'
+  cmp "$work/again/liblexical_c.a" "$work/with_g.a" || stop 'the same bytes'
+  fails cmp -s "$work/with_g.a" "$library" || stop 'other bytes than without -g'
 }
 
 # Whether library.c passes with a library that ends the program at an invalid slice and at an overflow.
 passes_checked() {
   export RUSTFLAGS='-C debug-assertions -C overflow-checks'
-  build_archive "$copy" && fails cmp -s "$work/again/liblexical_c.a" "$library" && library=$work/again/liblexical_c.a &&
-    runs_with "$CC" '-std=c99 -O1' "$crate/tests/library.c"
+  build_archive "$copy" || stop 'the archive with checks'
+  fails cmp -s "$work/again/liblexical_c.a" "$library" || stop 'other bytes than without checks'
+  library=$work/again/liblexical_c.a
+  runs_with "$CC" '-std=c99 -O1' "$crate/tests/library.c" || stop 'library.c'
 }
 
 # Whether archive explains itself, and refuses an option that it does not know or that has no value.
 explains_itself() {
-  "$copy/rust/lexical_c/archive" --help > "$work/help" && grep '^usage: archive ' "$work/help" || return 1
+  "$copy/rust/lexical_c/archive" --help > "$work/help" || stop 'archive --help'
+  grep '^usage: archive ' "$work/help" || stop 'the usage'
   for word in --emit=asm --target --out; do
     "$copy/rust/lexical_c/archive" --out "$work/none" $word > "$work/said" 2>&1
-    [ $? -eq 2 ] && cmp "$work/said" "$work/help" && [ ! -e "$work/none" ] || return 1
+    [ $? -eq 2 ] || stop "the exit status with $word"
+    cmp "$work/said" "$work/help" || stop "the usage with $word"
+    [ ! -e "$work/none" ] || stop "nothing is made with $word"
   done
 }
 
@@ -33,12 +41,14 @@ refuses_flags() {
   for RUSTFLAGS in -Clto=no '-g -C lto=off' -Copt-level=0 '-C opt-level=0' --codegen=panic=unwind \
     -Clinker-plugin-lto; do
     export RUSTFLAGS
-    fails "$copy/rust/lexical_c/archive" --out "$work/none" 2> "$work/said" && [ ! -e "$work/none" ] &&
-      grep 'RUSTFLAGS must not have' "$work/said" || return
+    fails "$copy/rust/lexical_c/archive" --out "$work/none" 2> "$work/said" || stop "$RUSTFLAGS is refused"
+    grep 'RUSTFLAGS must not have' "$work/said" || stop "why $RUSTFLAGS is refused: $(cat "$work/said")"
+    [ ! -e "$work/none" ] || stop "nothing is made with $RUSTFLAGS"
   done
 }
 
 check_archive() {
+  if [ "$builder" != rustc ]; then return; fi
   expect 'the sources in another folder make the same library' archives_the_same
   expect 'library.c with the checks of a debug build' passes_checked
   expect 'archive --help and wrong options' explains_itself

@@ -17,6 +17,9 @@ expect() {
   fi
 }
 
+# stop WHAT: ends a test as failed, and says at which step. A step is `COMMAND || stop WHAT`.
+stop() { echo "failed at: $1"; exit 1; }
+
 # expect_with TOOLS WHAT COMMAND..: the same, if the machine has these tools.
 expect_with() {
   tools=$1; shift

@@ -32,21 +32,21 @@ static void check_text(size_t count, const char *wanted)
 
 /*
  * HAS: each function has this type, and in C++11 and later it is known not to throw. RADIX: the format of a radix as an
- * argument. PASSED: a format as an argument, in C++ as an object. NOEXCEPT: whether a call does not throw.
+ * argument. IN_CXX: a statement that only C++ has. NOEXCEPT: whether a call does not throw.
  */
 #ifndef __cplusplus
 #define HAS(function) function;
 #define RADIX(number) &(const struct lexical_format)LEXICAL_RADIX(number)
-#define PASSED(format) &format
+#define IN_CXX(statement)
 #define NOEXCEPT(call) 1
 #elif __cplusplus >= 201103L
 #define HAS(function) extern "C" function noexcept;
 #define RADIX(number) LEXICAL_RADIX(number)
-#define PASSED(format) format
+#define IN_CXX(statement) statement
 #define NOEXCEPT(call) noexcept(call)
 #else
 #define HAS(function)
-#define PASSED(format) format
+#define IN_CXX(statement) statement
 #define NOEXCEPT(call) 1
 #endif
 #define HAS_EACH(NAME, CONSTANT, TYPE)                                         \
@@ -120,11 +120,12 @@ static void check_radices(void)
 #define TRY(type, value, decimal, hexadecimal)                                 \
     {                                                                          \
         const type number = (type)(value);                                     \
-        IS(lexical_decimal(number, buffer, sizeof buffer), decimal)                \
-        IS(lexical_write(number, &HEXADECIMAL, buffer, sizeof buffer), hexadecimal) \
+        IS(lexical_decimal(number, buffer, sizeof buffer), decimal)            \
+        IS(lexical_write(number, &HEXADECIMAL, buffer, 128), hexadecimal)      \
         IS(lexical_length(number, &HEXADECIMAL), hexadecimal)                  \
-        IS(lexical_write(number, PASSED(HEXADECIMAL), buffer, 128), hexadecimal)  \
-        IS(lexical_length(number, PASSED(HEXADECIMAL)), hexadecimal)           \
+        /* A format that is no pointer. */                                     \
+        IN_CXX(IS(lexical_write(number, HEXADECIMAL, buffer, 128), hexadecimal)) \
+        IN_CXX(IS(lexical_length(number, HEXADECIMAL), hexadecimal))           \
     }
 
 static void check_choice(void)

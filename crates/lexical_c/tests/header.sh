@@ -1,6 +1,6 @@
 # Tests of the header, which tests/run reads. They need a C compiler, and if there are C++ compilers and clang, they use
 # these too.
-# shellcheck shell=sh disable=SC2086,SC2154
+# shellcheck shell=sh disable=SC2046,SC2086,SC2154
 
 # with_each STANDARDS COMMAND: calls a command with each compiler and each of these standards that it knows, as
 # gcc -std=c99. If they are there, clang and clang++ are compilers too, but not for a TARGET.
@@ -29,22 +29,27 @@ explains_macros() {
   [ -s "$work/macros" ] && fails grep -Evx "LEXICAL_($names)|lexical_(decimal|write|length)" "$work/macros"
 }
 
-# list_calls STANDARD: sets the calls of refused.c that a standard has: those of which the type of the value chooses the
-# function, those with a pointer to a format, those with the size of a buffer, two with a radix, and all.
-list_calls() {
-  chosen='DECIMAL WRITE LENGTH' with_format='WRITE LENGTH' with_size='DECIMAL WRITE' with_radix='WRITE LENGTH' others=''
-  case $1 in
-    c89)
-      chosen='' with_format=CHECK_FORMAT with_size=PAD with_radix='WRITE_OF(u32) LENGTH_OF(u32)'
-      others='CHECK_FORMAT PAD'
-      for type in u8 u16 u32 u64 size i8 i16 i32 i64; do
-        with_format="$with_format WRITE_OF($type) LENGTH_OF($type) BUFFER_SIZE_OF($type)"
-        with_size="$with_size DECIMAL_OF($type) WRITE_OF($type)"
-        others="$others DECIMAL_OF($type) WRITE_OF($type) LENGTH_OF($type) BUFFER_SIZE_OF($type)"
-      done ;;
-    c++*) chosen="$chosen WRITE_OBJECT LENGTH_OBJECT" with_size="$with_size WRITE_OBJECT" ;;
+# of_each_type NAME..: prints these calls of refused.c with each type, as WRITE_OF(u8).
+of_each_type() {
+  for type in u8 u16 u32 u64 size i8 i16 i32 i64; do printf "%s($type) " "$@"; done
+}
+
+# calls KIND COMPILER: prints the calls of refused.c that the standard of a compiler has. The kinds are any; value, of
+# which the type of the value chooses the function; format, with a pointer to a format; size, with the size of a buffer;
+# and radix, of which it prints two.
+calls() {
+  case ${2##*=}:$1 in
+    c89:any) echo CHECK_FORMAT PAD "$(of_each_type DECIMAL_OF WRITE_OF LENGTH_OF BUFFER_SIZE_OF)" ;;
+    c89:value) ;;
+    c89:format) echo CHECK_FORMAT "$(of_each_type WRITE_OF LENGTH_OF BUFFER_SIZE_OF)" ;;
+    c89:size) echo PAD "$(of_each_type DECIMAL_OF WRITE_OF)" ;;
+    c89:radix) echo 'WRITE_OF(u32) LENGTH_OF(u32)' ;;
+    c++*:any | c++*:value) echo DECIMAL WRITE LENGTH WRITE_OBJECT LENGTH_OBJECT ;;
+    c++*:size) echo DECIMAL WRITE WRITE_OBJECT ;;
+    *:any | *:value) echo DECIMAL WRITE LENGTH ;;
+    *:size) echo DECIMAL WRITE ;;
+    *:format | *:radix) echo WRITE LENGTH ;;
   esac
-  calls="$chosen $others"
 }
 
 # what_is_said COMPILER CALL FLAGS: prints what a compiler says of a call of refused.c. The call is not inlined, so an
@@ -54,15 +59,16 @@ what_is_said() {
     -S -o /dev/null "$crate/tests/refused.c" 2>&1
 }
 
-# says_nothing COMPILER CALLS: whether a compiler compiles the sum of these calls, and says nothing.
-says_nothing() { prints '' what_is_said "$1" "$(printf '%s + ' $2) 0" ''; }
+# says_nothing COMPILER: whether a compiler compiles the sum of all calls, and says nothing.
+says_nothing() { prints '' what_is_said "$1" "$(printf '%s + ' $(calls any "$1")) 0" ''; }
 
-# reports WORDS COMPILER CALLS FLAGS: whether a compiler says these words of each of these calls, which the flags make
+# reports WORDS KIND COMPILER FLAGS: whether a compiler says these words of each call of this kind, which the flags make
 # wrong.
 reports() {
-  [ -n "$3" ] || return
-  for call in $3; do
-    what_is_said "$2" "$call" "$4" > "$work/said"
+  wrong=$(calls "$2" "$3")
+  [ -n "$wrong" ] || stop "no call has a $2"
+  for call in $wrong; do
+    what_is_said "$3" "$call" "$4" > "$work/said"
     grep -e "$1" "$work/said" || { echo "$call with $4 is not reported:"; cat "$work/said"; return 1; }
   done
 }
@@ -70,8 +76,7 @@ reports() {
 # check_refused COMPILER: what a compiler says of valid calls, which is nothing, and of values, formats and radices that
 # it must refuse.
 check_refused() {
-  list_calls "${1##*=}"
-  expect "valid calls by $1" says_nothing "$1" "$calls"
+  expect "valid calls by $1" says_nothing "$1"
   case ${1##*=} in
     c89) types='' ;;
     c++98) types='char bool wchar_t' ;;
@@ -81,22 +86,22 @@ check_refused() {
   esac
   no_function='error: .*\(not compatible\|deleted\|incomplete\)'
   for type in $types; do
-    expect "a $type is refused by $1" reports "$no_function" "$1" "$chosen" "-DVALUE=($type)1"
+    expect "a $type is refused by $1" reports "$no_function" value "$1" "-DVALUE=($type)1"
   done
   # `true` is a bool in C23, but not for clang 14.
   case $1 in
     clang*) ;;
-    *2x) expect "true is refused by $1" reports "$no_function" "$1" "$chosen" '-include stdbool.h -DVALUE=true' ;;
+    *2x) expect "true is refused by $1" reports "$no_function" value "$1" '-include stdbool.h -DVALUE=true' ;;
   esac
   # C++98 has neither initializers as arguments nor a check of constants.
   case ${1##*=} in c++98) return ;; esac
   for radix in -1 0 1 37 74 266 4294967306LL; do
-    expect "radix $radix is refused by $1" reports 'error: .*\(negative\|-1\)' "$1" "$with_radix" "-DRADIX=$radix"
+    expect "radix $radix is refused by $1" reports 'error: .*\(negative\|-1\)' radix "$1" "-DRADIX=$radix"
   done
   case ${1##*=} in
     c++*)
       for null in '{}' nullptr; do
-        expect "$null as a format is refused by $1" reports 'error: .*\(ambiguous\|deleted\)' "$1" "$with_format" \
+        expect "$null as a format is refused by $1" reports 'error: .*\(ambiguous\|deleted\)' format "$1" \
           "-DFORMAT=$null"
       done ;;
   esac
@@ -105,12 +110,11 @@ check_refused() {
 # check_attributes COMPILER: by the attributes of the header, a compiler reports calls that break its conditions. Of an
 # unused result of a function that only reads, g++ says that the statement has no effect. Only gcc sees lengths.
 check_attributes() {
-  list_calls "${1##*=}"
-  expect "no format by $1" reports '[[]-Wnonnull\|is ambiguous' "$1" "$with_format" -DFORMAT=NULL
-  expect "an unused result by $1" reports '[[]-Wunused-result\|statement has no effect' "$1" "$calls" -DUNUSED
+  expect "no format by $1" reports '[[]-Wnonnull\|is ambiguous' format "$1" -DFORMAT=NULL
+  expect "an unused result by $1" reports '[[]-Wunused-result\|statement has no effect' any "$1" -DUNUSED
   case $1 in
     clang*) ;;
-    *) expect "a length past the array by $1" reports '[[]-Wstringop-overflow' "$1" "$with_size" -DSIZE=5 ;;
+    *) expect "a length past the array by $1" reports '[[]-Wstringop-overflow' size "$1" -DSIZE=5 ;;
   esac
 }
 

@@ -5,49 +5,64 @@
 # refuses WORDS WORD..: whether make says these words and fails, and installs nothing.
 refuses() {
   words=$1; shift
-  fails make_c DESTDIR="$work/none" install "$@" 2> "$work/said" && grep "$words" "$work/said" && [ ! -e "$work/none" ]
+  fails make_c DESTDIR="$work/none" install "$@" 2> "$work/said" || stop 'make fails'
+  grep "$words" "$work/said" || stop "it says $words, and not $(cat "$work/said")"
+  [ ! -e "$work/none" ] || stop 'it installs nothing'
 }
 
 # Whether a staged installation has every file, and its mode whatever the umask is. It is then moved to its place.
 installs() {
-  (umask 077 && make_c DESTDIR="$work/a stage" prefix="$prefix" libdir="$folder" install) && mkdir "$prefix" &&
-    mv "$work/a stage$prefix"/* "$prefix" && fails grep -r 'a stage' "$prefix" &&
-    cmp "$crate/include/lexical.h" "$prefix/include/lexical.h" && cmp "$library" "$folder/liblexical_c.a" &&
-    prints "liblexical_c.so.$major" readlink "$folder/liblexical_c.so" &&
-    prints "liblexical_c.so.$version" readlink "$folder/liblexical_c.so.$major" &&
-    prints "$folder/liblexical_c.so.$version" find "$prefix" -type f -perm 755 &&
-    prints '' find "$prefix" ! -type l ! -perm 755 ! '(' -type f -perm 644 ')'
+  (umask 077 && make_c DESTDIR="$work/a stage" prefix="$prefix" libdir="$folder" install) || stop 'make install'
+  mkdir "$prefix" || stop 'a new prefix'
+  mv "$work/a stage$prefix"/* "$prefix" || stop 'the move from the stage'
+  fails grep -r 'a stage' "$prefix" || stop 'no file names the stage'
+  cmp "$crate/include/lexical.h" "$prefix/include/lexical.h" || stop 'the header'
+  cmp "$library" "$folder/liblexical_c.a" || stop 'the archive'
+  prints "liblexical_c.so.$major" readlink "$folder/liblexical_c.so" || stop 'the link for linkers'
+  prints "liblexical_c.so.$version" readlink "$folder/liblexical_c.so.$major" || stop 'the link of the soname'
+  prints "$folder/liblexical_c.so.$version" find "$prefix" -type f -perm 755 || stop 'what is executable'
+  prints '' find "$prefix" ! -type l ! -perm 755 ! '(' -type f -perm 644 ')' || stop 'the other modes'
 }
 
 # Whether a program with the library open keeps it while another is installed.
 replaces_library() {
   so=$folder/liblexical_c.so.$version
-  inode=$(ls -i "$so") && exec 5< "$so" && make_c prefix="$prefix" libdir="$folder" install &&
-    [ "$(ls -i "$so")" != "$inode" ] && cmp "$work/build/liblexical_c.so.$version" - <&5 &&
-    prints '' find "$prefix" -name '.*'
+  inode=$(ls -i "$so") || stop 'the installed library'
+  exec 5< "$so" || stop 'the library is read'
+  make_c prefix="$prefix" libdir="$folder" install || stop 'make install'
+  [ "$(ls -i "$so")" != "$inode" ] || stop 'the library is another file'
+  cmp "$work/build/liblexical_c.so.$version" - <&5 || stop 'the program keeps its bytes'
+  prints '' find "$prefix" -name '.*' || stop 'no temporary file is left'
 }
 
 # Whether uninstall leaves what others have put into each folder, and nothing else.
 uninstalls() {
-  find "$prefix" -type d -exec touch {}/lexical_other.3 \; && find "$prefix" -name lexical_other.3 > "$work/others" &&
-    make_c prefix="$prefix" libdir="$folder" uninstall && prints "$(cat "$work/others")" find "$prefix" ! -type d
+  find "$prefix" -type d -exec touch {}/lexical_other.3 \; || stop 'other files'
+  others=$(find "$prefix" -name lexical_other.3) || stop 'the paths of the other files'
+  make_c prefix="$prefix" libdir="$folder" uninstall || stop 'make uninstall'
+  prints "$others" find "$prefix" ! -type d || stop 'what is left'
 }
 
 # Whether the header and the manual can be outside prefix, where pkg-config finds the header, and are then uninstalled.
 honours_folders() {
   other=$work/other
   set -- prefix="$work/split" includedir="$other/include" mandir="$other/man"
-  make_c "$@" install && prints '' find "$work/split" -name '*.h' -o -name '*.3' &&
-    ls "$other/man/man3/lexical_pad.3" &&
-    $CC -fsyntax-only $(PKG_CONFIG_PATH="$work/split/lib/pkgconfig" pkg-config --cflags lexical_c) \
-      "$crate/examples/first.c" && make_c "$@" uninstall && prints '' find "$work/split" "$other" ! -type d
+  make_c "$@" install || stop 'make install'
+  prints '' find "$work/split" -name '*.h' -o -name '*.3' || stop 'neither is in prefix'
+  ls "$other/man/man3/lexical_pad.3" || stop 'the manual'
+  cflags=$(PKG_CONFIG_PATH="$work/split/lib/pkgconfig" pkg-config --cflags lexical_c) || stop 'the flags of pkg-config'
+  $CC -fsyntax-only $cflags "$crate/examples/first.c" || stop 'an example with these flags'
+  make_c "$@" uninstall || stop 'make uninstall'
+  prints '' find "$work/split" "$other" ! -type d || stop 'what is left'
 }
 
 # Whether man finds the page by the name of each function, and shows it in 80 columns without a warning.
 shows_manual() {
-  for name in $wanted; do man -M "$prefix/share/man" -w "$name" || return; done
-  LC_ALL=C MANWIDTH=80 man -M "$prefix/share/man" --warnings "$name" > "$work/manual" 2> "$work/said" &&
-    grep SYNOPSIS "$work/manual" && fails grep '.\{81\}' "$work/manual" && prints '' cat "$work/said"
+  for name in $wanted; do man -M "$prefix/share/man" -w "$name" || stop "the page of $name"; done
+  LC_ALL=C MANWIDTH=80 man -M "$prefix/share/man" --warnings "$name" > "$work/manual" 2> "$work/said" || stop 'man'
+  grep SYNOPSIS "$work/manual" || stop 'the synopsis'
+  fails grep '.\{81\}' "$work/manual" || stop 'lines of 80 columns'
+  prints '' cat "$work/said" || stop 'no warning'
 }
 
 # names FLAGS FILE: prints the names that nm finds, without their addresses and kinds.
@@ -59,7 +74,8 @@ keeps_released_names() {
   sed -n 's/^ \(lexical_.*\) [0-9.]*$/\1/p' "$crate/package/debian/liblexical-c$major.symbols" > "$work/released"
   sed 's/.*\(@.*\)/\1$/' "$work/released" | sort -u > "$work/nodes"
   names '-D --defined-only --with-symbol-versions' "$folder/liblexical_c.so" > "$work/exported"
-  [ -s "$work/released" ] && grep -f "$work/nodes" "$work/exported" | diff "$work/released" -
+  [ -s "$work/released" ] || stop 'the names of released versions'
+  grep -f "$work/nodes" "$work/exported" | diff "$work/released" - || stop 'the names in these nodes'
 }
 
 # Prints what the archive uses of the C library, and not what 32 bits also need of the compiler.
@@ -77,17 +93,19 @@ check_names() {
 # Whether the dynamic linker resolves all names of the library first, and then makes their table read-only, neither its
 # stack is executable nor its code changed, and its link took the flags.
 is_hardened() {
-  readelf -dlW "$folder/liblexical_c.so" > "$work/read" && grep GNU_RELRO "$work/read" &&
-    grep 'GNU_STACK.* RW ' "$work/read" && grep 'FLAGS_1.*NOW GLOBAL NODELETE' "$work/read" &&
-    fails grep TEXTREL "$work/read"
+  readelf -dlW "$folder/liblexical_c.so" > "$work/read" || stop 'readelf'
+  grep GNU_RELRO "$work/read" || stop 'a read-only table'
+  grep 'GNU_STACK.* RW ' "$work/read" || stop 'a stack that is not executable'
+  grep 'FLAGS_1.*NOW GLOBAL NODELETE' "$work/read" || stop 'names resolved first, and the flags of the link'
+  fails grep TEXTREL "$work/read" || stop 'code that is not changed'
 }
 
 # builds_examples FLAGS..: whether these flags build the examples in C and C++, and each prints the right lines.
 builds_examples() {
   while IFS='|' read -r name standard lines <&4; do
     case $name in *.c) compiler=$CC ;; *) compiler=$CXX ;; esac
-    $compiler -std=$standard $strict -o "$work/example" "$crate/examples/$name" "$@" &&
-      prints "$(printf '%b' "$lines")" "$work/example" || return
+    $compiler -std=$standard $strict -o "$work/example" "$crate/examples/$name" "$@" || stop "$name compiles"
+    prints "$(printf '%b' "$lines")" "$work/example" || stop "$name prints the right lines"
   done 4<<'END'
 first.c|c11|1234567
 formats.c|c11|BEEF\n1,234,567\n0x0000beef
@@ -99,8 +117,10 @@ END
 
 # hides COMPILER FLAGS..: whether a library that has the archive in it exports neither that nor the standard format.
 hides() {
-  "$@" -fPIC -shared -o "$work/library.so" && names '-D --defined-only' "$work/library.so" > "$work/names" &&
-    grep -x main "$work/names" && fails grep '^lexical_\|standard_format' "$work/names"
+  "$@" -fPIC -shared -o "$work/library.so" || stop "a library by $*"
+  names '-D --defined-only' "$work/library.so" > "$work/names" || stop 'its names'
+  grep -x main "$work/names" || stop 'its main is exported'
+  fails grep '^lexical_\|standard_format' "$work/names" || stop 'nothing of the archive is exported'
 }
 
 # Whether the flags of pkg-config link the examples, shared and static, also below another prefix.
@@ -108,25 +128,30 @@ links_with_pkg_config() {
   export PKG_CONFIG_PATH="$folder/pkgconfig"
   cflags=$(pkg-config --cflags lexical_c) static=$(pkg-config --variable=static lexical_c)
   summary=$(sed -n '/^Summary: /{s///p;q;}' "$crate/package/lexical_c.spec")
-  grep -x "Description: $summary" "$folder/pkgconfig/lexical_c.pc" &&
-    prints "$version" pkg-config --modversion lexical_c && prints '-I/other/include -L/other/lib/here -llexical_c ' \
-    pkg-config --define-variable=prefix=/other --cflags --libs lexical_c &&
-    builds_examples $(pkg-config --cflags --libs lexical_c) -Wl,-rpath,"$folder" && builds_examples $cflags $static &&
-    hides $CC "$crate/examples/first.c" $cflags $static &&
-    hides $CXX -std=c++17 "$crate/examples/example17.cpp" $cflags $static
+  grep -x "Description: $summary" "$folder/pkgconfig/lexical_c.pc" || stop 'the description'
+  prints "$version" pkg-config --modversion lexical_c || stop 'the version'
+  prints '-I/other/include -L/other/lib/here -llexical_c ' \
+    pkg-config --define-variable=prefix=/other --cflags --libs lexical_c || stop 'the flags below another prefix'
+  builds_examples $(pkg-config --cflags --libs lexical_c) -Wl,-rpath,"$folder"
+  builds_examples $cflags $static
+  hides $CC "$crate/examples/first.c" $cflags $static
+  hides $CXX -std=c++17 "$crate/examples/example17.cpp" $cflags $static
 }
 
 # Whether CMake finds the package as tests/cmake/CMakeLists.txt says, and builds a program with each of its libraries,
 # and a library that exports nothing of the archive in it.
 builds_with_cmake() {
   built=$work/built_by_cmake installed=$folder/cmake/lexical_c later=$work/later
-  fails grep -r -F "$prefix" "$installed" && mkdir "$later" && : > "$later/laterConfig.cmake" &&
-    sed "s/(PACKAGE_VERSION $version)/(PACKAGE_VERSION 1.9)/" "$installed/lexical_cConfigVersion.cmake" \
-      > "$later/laterConfigVersion.cmake" &&
-    lexical_c_DIR="$installed" later_DIR="$later" CC="$CC" cmake -S "$crate/tests/cmake" -B "$built" &&
-    cmake --build "$built" && prints 1234567 "$built/shared" && prints 1234567 "$built/static" &&
-    prints 1234567 "$built/lexical_c" && prints main names '-D --defined-only' "$built/libfirst.so" &&
-    readelf -d "$built/lexical_c" | grep "NEEDED.*\[liblexical_c.so.$major\]"
+  fails grep -r -F "$prefix" "$installed" || stop 'no file names the prefix'
+  mkdir "$later" || stop 'a folder for a later version'
+  : > "$later/laterConfig.cmake"
+  sed "s/(PACKAGE_VERSION $version)/(PACKAGE_VERSION 1.9)/" "$installed/lexical_cConfigVersion.cmake" \
+    > "$later/laterConfigVersion.cmake" || stop 'a later version'
+  lexical_c_DIR="$installed" later_DIR="$later" CC="$CC" cmake -S "$crate/tests/cmake" -B "$built" || stop 'cmake'
+  cmake --build "$built" || stop 'the build'
+  for program in shared static lexical_c; do prints 1234567 "$built/$program" || stop "the program $program"; done
+  prints main names '-D --defined-only' "$built/libfirst.so" || stop 'the names of libfirst.so'
+  readelf -d "$built/lexical_c" | grep "NEEDED.*\[liblexical_c.so.$major\]" || stop 'the soname in lexical_c'
 }
 
 runs_go() {
@@ -140,22 +165,36 @@ runs_go() {
 makes_packages() {
   unset TMPDIR
   PATH=$(rustc --print sysroot)/bin:$PATH root=$work/package/root
-  rm -rf "$work/package" && mkdir -p "$root" && cp -a "$copy" "$work/package/sources" || exit
-  cd "$work/package/sources" || exit
-  if [ "$1" = deb ]; then
-    cp -R crates/lexical_c/package/debian . && dpkg-buildpackage -b -us -uc -d &&
-      lintian --allow-root --fail-on error,warning --suppress-tags initial-upload-closes-no-bugs ../*.changes &&
-      for file in ../liblexical-c1_*.deb ../liblexical-c-dev_*.deb; do dpkg-deb -x "$file" "$root" || exit; done &&
-      ls "$root/usr/share/doc/liblexical-c-dev/README.Debian" "$root"/usr/share/doc/liblexical-c-dev/README.md* &&
-      mkdir ../autopkgtest && AUTOPKGTEST_TMP=$PWD/../autopkgtest CMAKE_PREFIX_PATH="$root/usr" debian/tests/cmake
-  else
-    rpmbuild --build-in-place --nodeps -bb -D "_topdir $work/package/rpm" crates/lexical_c/package/lexical_c.spec &&
-      for file in ../rpm/RPMS/*/*.rpm; do rpm2archive - < "$file" | tar xzf - -C "$root" || exit; done
-  fi || exit
-  so=$(find "$root" -name liblexical_c.so) && prints '' find "$root" -name manifest &&
-    ls "$root"/usr/share/man/man3/lexical_decimal_u32.3* &&
-    $CC -I"$root/usr/include" -o ../first crates/lexical_c/examples/first.c "$so" &&
-    prints 1234567 env LD_LIBRARY_PATH="${so%/*}" ../first
+  rm -rf "$work/package"
+  mkdir -p "$root" || stop 'an empty root'
+  cp -a "$copy" "$work/package/sources" || stop 'a copy of the sources'
+  cd "$work/package/sources" || stop 'the folder of the sources'
+  "unpacks_$1"
+  so=$(find "$root" -name liblexical_c.so)
+  prints '' find "$root" -name manifest || stop 'no file of the build is in a package'
+  ls "$root"/usr/share/man/man3/lexical_decimal_u32.3* || stop 'the manual'
+  $CC -I"$root/usr/include" -o ../first crates/lexical_c/examples/first.c "$so" || stop 'a program with the library'
+  prints 1234567 env LD_LIBRARY_PATH="${so%/*}" ../first || stop 'what that prints'
+}
+
+# Builds the packages for Debian in the current folder, unpacks them into `root`, and runs their own test.
+unpacks_deb() {
+  cp -R crates/lexical_c/package/debian . || stop 'the folder debian'
+  dpkg-buildpackage -b -us -uc -d || stop 'dpkg-buildpackage'
+  lintian --allow-root --fail-on error,warning --suppress-tags initial-upload-closes-no-bugs ../*.changes ||
+    stop 'lintian'
+  for file in ../liblexical-c1_*.deb ../liblexical-c-dev_*.deb; do dpkg-deb -x "$file" "$root" || stop "$file"; done
+  documents=$root/usr/share/doc/liblexical-c-dev
+  ls "$documents/README.Debian" "$documents"/README.md* || stop 'the documentation'
+  mkdir ../autopkgtest || stop 'a folder for autopkgtest'
+  AUTOPKGTEST_TMP=$PWD/../autopkgtest CMAKE_PREFIX_PATH="$root/usr" debian/tests/cmake || stop 'debian/tests/cmake'
+}
+
+# Builds the RPMs in the current folder, and unpacks them into `root`.
+unpacks_rpm() {
+  rpmbuild --build-in-place --nodeps -bb -D "_topdir $work/package/rpm" crates/lexical_c/package/lexical_c.spec ||
+    stop 'rpmbuild'
+  for file in ../rpm/RPMS/*/*.rpm; do rpm2archive - < "$file" | tar xzf - -C "$root" || stop "$file"; done
 }
 
 check_installation() {
