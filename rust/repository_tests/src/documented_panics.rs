@@ -1,25 +1,25 @@
 //! The conditions in the sections `# Panics` of the package, and whether a test has a call for each.
 
-use crate::sources::{calls, has_word, texts_of_cojimuran};
+use crate::sources::{has_call, has_word, texts_of_cojimuran};
 
-/// The condition of each function with a buffer.
+/// The condition that functions with a buffer have.
 pub const SHORT_BUFFER: &str = "the buffer is too short";
 
 /// A condition as documentation states it after `# Panics`, and the source of a call that panics because it holds.
 pub type Panicking = (&'static str, &'static str);
 
-/// Checks that these calls have one of each function for each of its conditions that a test is of, and that there are
-/// at least so many of these.
+/// Checks that each function has a call for each of its conditions that a test is about, and that at least so many are
+/// found.
 pub fn check_each_has_a_call(tried: &[Panicking], is_of_test: impl Fn(&str) -> bool, least: usize) {
     let texts = texts_of_cojimuran();
     let documented: Vec<_> = texts.iter().flat_map(|text| functions_and_conditions(text)).collect();
     let mut count = 0;
     for (name, condition) in documented.iter().filter(|(_, condition)| is_of_test(condition)) {
-        let is_of_it = |(when, call): &Panicking| when == condition && calls(call, name);
+        let is_of_it = |(when, call): &Panicking| when == condition && has_call(call, name);
         assert!(tried.iter().any(is_of_it), "no call of {name} panics here if {condition}");
         count += 1;
     }
-    assert!(count >= least, "{count}");
+    assert!(count >= least, "the documentation has only {count}");
 }
 
 /// Returns each function of a source whose documentation says when it panics, with each of these conditions.

@@ -16,9 +16,9 @@ fn paths_in(folder: &Path) -> Vec<PathBuf> {
     paths.flat_map(|path| if path.is_dir() { paths_in(&path) } else { vec![path] }).collect()
 }
 
-/// Returns whether an expression calls a function of this name, or makes a tuple struct of it.
-pub fn calls(expression: &str, name: &str) -> bool {
-    rests_after(expression, name).any(|rest| rest.starts_with('('))
+/// Returns whether a text has a call of a function of this name, or makes a tuple struct of it.
+pub fn has_call(text: &str, name: &str) -> bool {
+    rests_after(text, name).any(|rest| rest.starts_with('('))
 }
 
 /// Returns whether a text has this word.

@@ -1,6 +1,6 @@
 //! Each part that the package exports has a row in the table `src/parts.rs`, and each module of parts has a mistake.
 
-use repository_tests::sources::calls;
+use repository_tests::sources::has_call;
 
 /// Returns each module of parts that exports something, and the names that it exports.
 fn exports_of_parts() -> Vec<(&'static str, &'static str)> {
@@ -17,7 +17,7 @@ fn each_part_has_a_row() {
     let (exports, table) = (exports_of_parts(), include_str!("../src/parts.rs"));
     let names = exports.iter().flat_map(|(_, names)| names.split(|c: char| !c.is_alphanumeric()));
     let parts: Vec<&str> = names.filter(|name| name.starts_with(char::is_uppercase)).collect();
-    let has_row = |name: &str| ["Part", "Buffer", "Show", "Shown"].contains(&name) || calls(table, name);
+    let has_row = |name: &str| ["Part", "Buffer", "Show", "Shown"].contains(&name) || has_call(table, name);
     let missing: Vec<&&str> = parts.iter().filter(|name| !has_row(name)).collect();
     assert!(missing.is_empty(), "src/parts.rs has no row for {missing:?}");
     assert!(parts.len() > 20);
