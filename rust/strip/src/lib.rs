@@ -12,9 +12,9 @@
 //! 6. `checks` refuses each word of Rattle that is left, and a function whose documentation says nothing of what it
 //!    requires.
 //!
-//! `sources` lists the crates, what is made of each, and the names that the steps need to know, such as those of laws.
-//! What no step knows is an error with the file and the line. A rule or a listed name that is for nothing is an error
-//! too.
+//! `sources` lists the crates, what is made of each, and the names that the steps need to know, such as those of laws;
+//! `source` says what each list is. What no step knows is an error with the file and the line. A rule or a listed name
+//! that is for nothing is an error too.
 
 #![forbid(unsafe_code)]
 
