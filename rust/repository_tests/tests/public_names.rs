@@ -1,6 +1,6 @@
 //! Compares what the packages `cojimuran` and `lexwrite` export with what their users may rely on, as it stands here:
 //! the names that the imports list, and the traits that each type implements. Without one of them this file does not
-//! compile. Only `formats` runs something: it compares the defaults.
+//! compile. Only `traits_of_formats` runs something: it compares the defaults.
 
 #![allow(unused_imports, reason = "what is not there is an error")]
 
@@ -40,13 +40,13 @@ macro_rules! each {
 }
 
 #[test]
-fn numbers() {
+fn traits_of_numbers() {
     each!(is_number: u8, u16, u32, u64, usize, i8, i16, i32, i64, isize);
     each!(is_unsigned: u8, u16, u32, u64, usize);
 }
 
 #[test]
-fn formats() {
+fn traits_of_formats() {
     fn is_ordered<T: Copy + Debug + Ord + Default + Send + Sync>() {}
     fn is_hashed<T: Eq + Hash>() {}
     fn is_error<E: std::error::Error + Copy + Eq + Hash + Send + Sync + 'static>() {}
@@ -61,7 +61,7 @@ fn formats() {
 }
 
 #[test]
-fn devices() {
+fn traits_of_devices() {
     fn is_source<S: BlockSource + Debug + Send>() {}
     fn is_sink<K: BlockSink + Debug + Send>() {}
     fn are_of_bytes<S: ByteSource + Debug, K: ByteSink + Debug>() {}

@@ -1,6 +1,6 @@
-//! `Scientific` against `{:e}` of the standard library. The test of the same name in
-//! `crates/uses/src/tests/scientific.rt`, which cannot call `{:e}`, makes the same numbers, and has the sums of their
-//! texts, with which the sums of the texts of `{:e}` are compared here.
+//! `Scientific` against `{:e}` of the standard library. Proved code cannot call `{:e}`. So the test of the same name in
+//! `crates/uses/src/tests/scientific.rt` makes the same numbers, and compares sums of their texts with constants. This
+//! one computes the sums of the texts of `{:e}`, and looks for them there.
 
 use cojimuran::{Part, Scientific};
 use repository_tests::random::Random;
