@@ -45,8 +45,8 @@
  *
  * Buffer. `buffer` points to `size` bytes that the call may write. The size must not
  * exceed PTRDIFF_MAX. The pointer may be NULL if the size is 0. The buffer must not
- * overlap the format, and no other thread may use it during the call. It need not be
- * initialized, except for the text that you pass to lexical_pad. The call writes nothing
+ * overlap the format, and during the call no other thread may use the buffer. It need not
+ * be initialized, except for the text that you pass to lexical_pad. The call writes nothing
  * outside the buffer, and keeps no pointer to it. Bytes after the text keep their values.
  *
  * Size of the buffer. LEXICAL_BUFFER_SIZE bytes are enough for every number of every
@@ -145,8 +145,8 @@ LEXICAL_HAS((nothrow, const)) uint32_t lexical_version(void) LEXICAL_NOEXCEPT;
 /* ---- decimal numbers ----------------------------------------------------- */
 
 /*
- * A buffer size that is enough for every result of lexical_decimal_T, without a NUL. With
- * lexical_terminate it must be one byte more. For a format with groups or a '+' use
+ * A buffer size that is enough for every result of lexical_decimal_T, without a NUL. A NUL
+ * needs one byte more. For a format with groups or a '+' use
  * LEXICAL_BUFFER_SIZE_U32 and so on, or at run time lexical_buffer_size_T.
  */
 #define LEXICAL_BUFFER_SIZE_DECIMAL_U8 3
@@ -239,8 +239,8 @@ struct lexical_format {
  * LEXICAL_FORMAT(10, 0, 3, ','). Cast an int variable to uint32_t: otherwise clang
  * refuses it, and g++ warns of it.
  *
- * C89 and C++98 do not have this macro. It does not check the radix when you compile, as
- * LEXICAL_RADIX does.
+ * C89 and C++98 do not have this macro. Unlike LEXICAL_RADIX, it does not check the radix
+ * when you compile.
  */
 #if defined(__cplusplus)
 #if __cplusplus >= 201103L
@@ -318,9 +318,9 @@ uint32_t lexical_check_format(const struct lexical_format *format) LEXICAL_NOEXC
 /*
  * lexical_buffer_size_T: returns a buffer size that is enough for every number of the
  * type in the format, with its sign and its separators. If the format is valid,
- * lexical_write_T never returns 0 with a buffer of this size. It is a bound: in radix 10 at most 2
- * bytes more than the longest text, and in other radices the constant for the type, such as
- * LEXICAL_BUFFER_SIZE_U32. The exact length of the longest text is
+ * lexical_write_T never returns 0 with a buffer of this size. It is a bound: in radix 10 at
+ * most 2 bytes more than the longest text, and in other radices the constant for the type,
+ * such as LEXICAL_BUFFER_SIZE_U32. The exact length of the longest text is
  * lexical_length_u32(UINT32_MAX, format), and for a signed type
  * lexical_length_i32(INT32_MIN, format).
  *
@@ -426,8 +426,8 @@ size_t lexical_write_i64(int64_t value, const struct lexical_format *format,
 /*
  * lexical_pad: inserts zeros into a text, after its sign, until it has `width` bytes.
  *
- *     count   the length of the text at `buffer`, which another call has written, or 0 after
- *             an error
+ *     count   the length of the text at `buffer`, or 0 after an error; any text is allowed, and
+ *             its sign is a '-' or a '+' at its start
  *     width   the minimum length of the text; a longer text stays as it is
  *     buffer  where the text begins
  *     size    the size of the buffer in bytes
@@ -442,8 +442,8 @@ size_t lexical_write_i64(int64_t value, const struct lexical_format *format,
  * not grouped: 1,234,567 padded to 12 bytes is 0001,234,567.
  *
  * If `width` is greater than `size`, lexical_pad returns 0, although the text without
- * zeros is in the buffer. To keep that text, save its length before: lexical_terminate with
- * a count of 0 erases the text.
+ * zeros is in the buffer. To keep that text, save its length before you call lexical_pad, and
+ * pass that length to lexical_terminate, because a count of 0 erases the text.
  */
 LEXICAL_HAS((nothrow, warn_unused_result)) LEXICAL_ACCESS((read_write, 3, 4))
 size_t lexical_pad(size_t count, size_t width, char *buffer, size_t size) LEXICAL_NOEXCEPT;
