@@ -41,8 +41,8 @@ pub trait Append: Show {
     /// # Panics
     ///
     /// If the part is not valid, or if the text for a `String` is not UTF-8, or if the vector would reserve more than
-    /// `isize::MAX` bytes. A `String` is then unchanged, and a `Vec` may have zeros at its end. If there is not enough
-    /// memory, the process aborts, as it does for `Vec::push`.
+    /// `isize::MAX` bytes. A `String` is then unchanged, and a `Vec` may have some of the text and zeros at its end. If
+    /// there is not enough memory, the process aborts, as it does for `Vec::push`.
     fn append_to<T: AppendTarget>(self, target: &mut T);
 }
 
