@@ -1,5 +1,5 @@
-//! Radices that are invalid, and numbers that are longer than their width. Each call panics or returns within a second,
-//! and changes no byte outside of its buffer.
+//! Radices that are invalid, and numbers that are longer than their width. Each call panics or returns, none hangs, and
+//! none changes a byte outside of its buffer.
 
 use cojimuran::compact::Compact;
 use cojimuran::digit_count::DigitCount;

@@ -8,7 +8,7 @@
 //!
 //! 1. `without_statements`: statements that only record in a counter or only call a law, and then
 //!    - each `if` around them that is now empty: `if n > 0 { turns.tick(n); } n` becomes `n`;
-//!    - a variable that only they have read: `let half = n / 2; turns.tick(half); half }` becomes `n / 2 }`.
+//!    - a variable that is then only returned: `let half = n / 2; turns.tick(half); half }` becomes `n / 2 }`.
 //! 2. `without_elements`: parameters, arguments and fields that are counters: `f(n, &mut Turns::new())` becomes `f(n)`.
 //! 3. `without_counted`: the ending of names as `f_counted`, and a function `f` that only called it:
 //!    `fn f(n: u8) { f_counted(n) } fn f_counted(n: u8) { n }` becomes `fn f(n: u8) { n }`.
