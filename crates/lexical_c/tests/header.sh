@@ -34,10 +34,10 @@ of_each_type() {
   for type in u8 u16 u32 u64 size i8 i16 i32 i64; do printf "%s($type) " "$@"; done
 }
 
-# calls KIND COMPILER: prints the calls of refused.c that the standard of a compiler has. The kinds are any; value, of
-# which the type of the value chooses the function; format, with a pointer to a format; size, with the size of a buffer;
-# and radix, of which it prints two.
-calls() {
+# calls_of_kind KIND COMPILER: prints the calls of refused.c that the standard of a compiler has. The kinds are any;
+# value, of which the type of the value chooses the function; format, with a pointer to a format; size, with the size of
+# a buffer; and radix, of which it prints two.
+calls_of_kind() {
   case ${2##*=}:$1 in
     c89:any) echo CHECK_FORMAT PAD "$(of_each_type DECIMAL_OF WRITE_OF LENGTH_OF BUFFER_SIZE_OF)" ;;
     c89:value) ;;
@@ -60,12 +60,12 @@ what_is_said() {
 }
 
 # says_nothing COMPILER: whether a compiler compiles the sum of all calls, and says nothing.
-says_nothing() { prints '' what_is_said "$1" "$(printf '%s + ' $(calls any "$1")) 0" ''; }
+says_nothing() { prints '' what_is_said "$1" "$(printf '%s + ' $(calls_of_kind any "$1")) 0" ''; }
 
 # reports WORDS KIND COMPILER FLAGS: whether a compiler says these words of each call of this kind, which the flags make
 # wrong.
 reports() {
-  wrong=$(calls "$2" "$3")
+  wrong=$(calls_of_kind "$2" "$3")
   [ -n "$wrong" ] || stop "no call has a $2"
   for call in $wrong; do
     what_is_said "$3" "$call" "$4" > "$work/said"

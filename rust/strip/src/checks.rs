@@ -1,9 +1,9 @@
 //! What is refused in the code that is made: what only Rattle has, laws that are not listed, and conditions of which
 //! the documentation says nothing.
 
+use crate::crates::COUNTERS;
 use crate::items::{Function, functions};
 use crate::laws::{Names, effect};
-use crate::sources::COUNTERS;
 use crate::tokens::{Token, words};
 
 /// What only Rattle has.
@@ -15,7 +15,7 @@ pub(crate) fn check_rust(tokens: &[Token], laws: &Names) -> Result<(), String> {
     let is_empty = |each: &Function| tokens[each.body] == "{" && each.inside(tokens).is_empty();
     if let Some(law) = functions(tokens).iter().find(|each| is_empty(each) && effect(tokens, each).is_none()) {
         let line = tokens[law.at].line;
-        return Err(format!("{line}: {} does nothing: is it a law that `sources.rs` must list?", law.name(tokens)));
+        return Err(format!("{line}: {} does nothing: is it a law that `crates.rs` must list?", law.name(tokens)));
     }
     let is_literal = |text: &str| ["\"", "'", "b\"", "b'", "//"].iter().any(|start| text.starts_with(start));
     let is_of_rattle = |pair: &&[Token]| {

@@ -13,9 +13,9 @@
 //! 3. `without_counted`: the ending of names as `f_counted`, and a function `f` that only called it:
 //!    `fn f(n: u8) { f_counted(n) } fn f_counted(n: u8) { n }` becomes `fn f(n: u8) { n }`.
 
+use crate::crates::COUNTERS;
 use crate::items::{Function, elements, functions, remove, remove_and_keep_comment, remove_element};
 use crate::laws::{Names, is_for_proofs};
-use crate::sources::COUNTERS;
 use crate::tokens::{Token, find, opening, words};
 use std::ops::Range;
 

@@ -1,7 +1,7 @@
 //! Laws, which are functions that only prove something, and statements that only call one or record in a counter.
 
+use crate::crates::{COUNTERS, WITHOUT_EFFECT};
 use crate::items::{Function, after_type_arguments, elements};
-use crate::sources::{COUNTERS, WITHOUT_EFFECT};
 use crate::tokens::{Token, opening, words};
 use std::collections::BTreeSet;
 use std::ops::Range;

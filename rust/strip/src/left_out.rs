@@ -1,12 +1,12 @@
 //! Leaves out items that only Rattle reads: what is marked as ghost, tactics, models, laws, and modules of them; then
 //! contracts, and imports of what is gone.
 
+use crate::crates::COUNTERS;
 use crate::items::{
     function, functions, remove, remove_and_keep_comment, remove_element, start, start_with_attributes,
 };
 use crate::laws::Names;
 use crate::repository::File;
-use crate::sources::COUNTERS;
 use crate::tokens::{Token, closing, find, words};
 use std::ops::Range;
 

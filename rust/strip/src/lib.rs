@@ -12,7 +12,7 @@
 //! 6. `checks` refuses each word of Rattle that is left, and a function whose documentation says nothing of what it
 //!    requires.
 //!
-//! `sources` lists the crates, what is made of each, and the names that the steps need to know, such as those of laws;
+//! `crates` lists the crates, what is made of each, and the names that the steps need to know, such as those of laws;
 //! `source` says what each list is. What no step knows is an error with the file and the line. A rule or a listed name
 //! that is for nothing is an error too.
 
@@ -21,6 +21,7 @@
 mod additions;
 mod checks;
 mod counters;
+mod crates;
 mod files;
 mod items;
 mod laws;
@@ -29,14 +30,13 @@ mod replacements;
 mod repository;
 mod rules;
 mod source;
-mod sources;
 mod tokens;
 
+use crates::SOURCES;
 use files::{files_of, laid_out, read, remove, without_layout, write};
 use repository::{File, Repository};
 use rules::Rule;
 use source::Source;
-use sources::SOURCES;
 use std::collections::BTreeMap;
 use std::path::{Path, PathBuf};
 

@@ -1,4 +1,4 @@
-//! What is made of a crate: the description of one, which `sources` has of each.
+//! What is made of a crate: the description of one, which `crates` has of each.
 
 use std::path::{Path, PathBuf};
 

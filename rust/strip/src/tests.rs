@@ -1,9 +1,9 @@
 //! Small sources, and what becomes of each. The made files, which the gate compares, show the rest.
 
+use crate::crates::SOURCES;
 use crate::repository::{File, Repository};
 use crate::rules::{Rule, lex_and_apply};
 use crate::source::Source;
-use crate::sources::SOURCES;
 use crate::tokens::{lex, print, words};
 use crate::{Files, MADE, files, stale, translated};
 use std::path::{Path, PathBuf};
@@ -91,7 +91,7 @@ fn what_is_left_of_rattle_is_refused() {
     for word in ["tactic", "prove", "Model", "Drop"] {
         is_refused(&format!("struct S<{word}>;"), &format!("1: only Rattle has `{word}`"));
     }
-    is_refused("fn f(a: u8) { in_range(a); }", "1: f does nothing: is it a law that `sources.rs` must list?");
+    is_refused("fn f(a: u8) { in_range(a); }", "1: f does nothing: is it a law that `crates.rs` must list?");
     is_refused("fn f() { (a] }", "1: nothing opens this `]`");
     is_refused("fn f() {\n(", "2: nothing closes this `(`");
 }

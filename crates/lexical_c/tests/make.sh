@@ -1,0 +1,33 @@
+# Tests of what make builds and links, which tests/run reads.
+# shellcheck shell=sh disable=SC2086,SC2154
+
+# what_is_linked WORD..: calls make, and prints the shared library if it is linked.
+what_is_linked() {
+  touch "$work/now" && make_c "$@" && find "$work/build" -name '*.so.*' -type f -newer "$work/now"
+}
+
+# Whether make links the shared library after its archive or its flags have changed, and only then.
+links_after_changes() {
+  other="$work/other archive.a"
+  : > "$work/nothing.c"
+  $CC -c -o "$work/nothing.o" "$work/nothing.c" || stop 'an object file'
+  cp "$library" "$other" || stop 'a copy of the archive'
+  "${AR:-ar}" q "$other" "$work/nothing.o" || stop 'another archive'
+  prints '' what_is_linked || stop 'it is not linked again without a change'
+  what_is_linked ARCHIVE="$other" | grep so || stop 'it is linked with the other archive'
+  prints '' what_is_linked ARCHIVE="$other" || stop 'it is not linked again with the same archive'
+  what_is_linked LDFLAGS= | grep so || stop 'it is linked with other flags'
+  what_is_linked | grep so || stop 'it is linked with the first archive and flags'
+}
+
+# Whether make takes TARGET from its own command line, and not from the environment.
+takes_target() {
+  env TARGET=none make -n -C "$copy/crates/lexical_c" | grep -x '.*/archive --out build *' || stop 'the environment'
+  make -n -C "$copy/crates/lexical_c" TARGET=none | grep -x '.*/archive --out build/none --target none' ||
+    stop 'the command line'
+}
+
+check_make() {
+  expect 'the TARGET of make' takes_target
+  expect 'what make links' links_after_changes
+}
