@@ -9,7 +9,7 @@
 //!
 //! # What you call
 //!
-//! A part is a value that has a text, such as a number, a `&str` or a tuple of 2 to 12 parts.
+//! A *part* is anything that this crate can write, such as a number, a `&str` or a tuple of 2 to 12 parts.
 //!
 //! | you want | call |
 //! |---|---|
@@ -43,12 +43,12 @@
 //! | [`Sign`] | the sign of a number, or nothing |
 //! | [`Displayed`] | any value with `Display`, such as a float or a `u128` |
 //!
-//! Most programs need nothing else. The other items mirror the crate `lexical-write-integer`, so that a program can
-//! move from that crate: [`ToLexical`] writes bytes in decimal, [`ToLexicalWithOptions`] does so in a [`NumberFormat`],
-//! and the modules have the writers of digits without a sign. [`Options`] has no fields, and is there only for
-//! compatibility. [`compact::Compact`] adds little code and is slower, [`padded::write_padded`] fills a buffer with a
-//! number, [`write_field`] and [`write_with_length`] write the fields of a header, and [`group_digits`],
-//! [`write_sign`] and [`sign_len`] are for writers of your own.
+//! Most programs need nothing else. The other items are for two purposes:
+//!
+//! | purpose | items |
+//! |---|---|
+//! | to move from the crate `lexical-write-integer`, with its names | [`ToLexical`] writes bytes in decimal, and [`ToLexicalWithOptions`] in a [`NumberFormat`]; [`Options`] has no fields; the modules write digits without a sign |
+//! | to write into a buffer at a place of your own | [`write_field`] and [`write_with_length`] for a header, [`padded::write_padded`] for a number over a whole buffer, [`compact::Compact`] for digits in little code, [`group_digits`], [`write_sign`] and [`sign_len`] for a writer of your own |
 //!
 //! These pages have the details: [when calls panic, and how long a buffer must be](conditions), [what they cost](costs),
 //! [what to write in place of another crate or `format!`](from_other_crates), and [what to write if a call does not
@@ -100,8 +100,8 @@
 //!   [`TrimmedFixed`], [`Padded`] and [`PaddedDigits`] take the width, the fill, the `+` and the `0` of an integer. `#`
 //!   and a precision have no effect on them.
 //! - A [`Displayed`] passes all options to its value.
-//! - All other parts, among them [`Shown`], [`Lower`] and [`ZeroPadded`], take the width, the fill and the precision of a
-//!   `&str`.
+//! - [`Shown`], which is no part itself, and all other parts, such as [`Lower`] and [`ZeroPadded`], take the width, the
+//!   fill and the precision of a `&str`.
 //!
 //! ```
 //! use cojimuran::{Hex, Lower, Shown};
@@ -184,6 +184,7 @@ mod misuse;
 /// | `(String, u8)` is not a part, or `to_str` exists for `(&str, &String)`, but its trait bounds were not satisfied | `string.as_str()`, or, with the feature `alloc`, `&string` |
 /// | `to_str` exists for `Joined<'_, String>`, but its trait bounds were not satisfied | a list of `&str`: `Joined(&strings.iter().map(String::as_str).collect::<Vec<_>>(), ",")` |
 /// | `(u8, Option<String>)` is not a part | `option.as_deref()` |
+/// | `to_str` exists for `(&str, Shown<u8>)`, but its trait bounds were not satisfied | the part without `Shown` |
 /// | cannot borrow `buffer` as mutable more than once | a buffer for each text that you keep |
 /// | no method named `write_pieces` | `use cojimuran::Show` |
 /// | no method named `append_to`, or unresolved import `cojimuran::Append` | `use cojimuran::Append`, and the feature `alloc` |

@@ -20,7 +20,7 @@ use core::fmt;
 ///
 /// If the radix is a constant where you call `to_str`, your program has only the code of that radix. If it is known only
 /// at run time, your program has [the code of every radix](crate::costs#a-radix-that-is-known-only-at-run-time), which
-/// is 65 KB or more. `write_pieces` and `{}` take 5 KB for all radices, because they divide once for each digit.
+/// is 65 KB or more. `write_pieces` and `{}` take a tenth of that, because they divide once for each digit.
 ///
 /// ```
 /// use cojimuran::{Digits, Lower, Part};
