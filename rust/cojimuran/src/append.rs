@@ -1,6 +1,7 @@
 //! Parts at the end of a `Vec` or a `String`. This file is written by hand: it only finds the room for what is proved.
 
 use crate::parts::Show;
+use crate::parts::sealed::Sealed;
 use alloc::string::String;
 use alloc::vec::Vec;
 
@@ -36,7 +37,8 @@ pub trait Append: Show {
     ///
     /// If the [`room`](crate::Part::room) of the part is at most 256 bytes, the text is written in one piece, and the
     /// target grows by its length. Otherwise a `String` gets it in pieces, as by
-    /// [`write_pieces`](Show::write_pieces), and a `Vec` must have, or gets, the room.
+    /// [`write_pieces`](Show::write_pieces), and a `Vec` must have, or gets, the room. A `String` also gets a text in
+    /// pieces if a [`Displayed`](crate::Displayed), a reference to a `String` or a part of your own is in it.
     ///
     /// # Panics
     ///
@@ -101,14 +103,17 @@ impl AppendTarget for String {
     #[cfg_attr(not(debug_assertions), inline(always))]
     #[track_caller]
     fn append_part<P: Show>(&mut self, part: P) {
-        if part.room() <= MOST_AT_ONCE {
+        // Other texts go out in pieces: each of these is a `&str` already, and a `Displayed` is formatted only once.
+        if part.is_known_valid_and_utf8(Sealed) && part.room() <= MOST_AT_ONCE {
             self.push_str(part.to_str(&mut [0; MOST_AT_ONCE]));
             return;
         }
         let start = self.len();
         if part.write_pieces(self).is_err() {
             self.truncate(start);
-            panic!("the part is not valid, or the text is not UTF-8");
+            panic!(
+                "the part is not valid, or the text is not UTF-8, or a `Display` returned an error"
+            );
         }
     }
 }

@@ -1,5 +1,6 @@
 //! Values that have `Display`, as parts. This file is written by hand and is not proved.
 
+use crate::parts::sealed::Sealed;
 use crate::parts::{Part, Show};
 use core::fmt::{self, Display, Write};
 
@@ -18,7 +19,7 @@ use core::fmt::{self, Display, Write};
 /// ```
 ///
 /// The value is formatted once to write it, and once more each time that a call asks for its [`room`](Part::room) or
-/// its length, as `try_to_str` does. It must write the same text each time.
+/// its length, as `try_to_str` and `append_to` a `Vec` do. It must write the same text each time.
 ///
 /// A `u128` has at most 39 bytes and an `i128` at most 40. Other texts can be long: `{}` of `1e300` has 301 bytes. So take
 /// [`room`](Part::room) bytes, `write_pieces`, or a format with a limit such as `{:.3e}`.
@@ -91,6 +92,13 @@ impl<T: Display + ?Sized> Part for Displayed<'_, T> {
         let mut count = Count(0);
         write!(count, "{}", self.0).ok()?;
         Some(count.0)
+    }
+
+    // So `to_str` formats the value only once: `write_to` panics if the text does not fit. Nothing else relies on this
+    // bound, because `to_str` always checks that a text with a `Displayed` in it is UTF-8.
+    #[inline]
+    fn room_bound(self, _sealed: Sealed) -> usize {
+        0
     }
 }
 

@@ -21,10 +21,10 @@
 //! | a part in an array that may be too short | [`part.try_to_str(&mut buffer)`](Part::try_to_str) |
 //! | a part in a format string | [`Shown(part)`](Shown) |
 //!
-//! An array must have [`part.room()`](Part::room) bytes, otherwise `to_str` panics, with [few
-//! exceptions](conditions#what-happens-otherwise). [A table](conditions#how-long-a-buffer-must-be) has the room of each
-//! part. Write a text of unknown length by
-//! `write_pieces`, which needs no array. [`BUFFER_SIZE`] bytes are enough for one number in any format.
+//! An array must have [`part.room()`](Part::room) bytes, otherwise `to_str`
+//! [panics](conditions#what-happens-otherwise). [A table](conditions#how-long-a-buffer-must-be) has the room of each
+//! part. Write a text of unknown length by `write_pieces`, which needs no array. [`BUFFER_SIZE`] bytes are enough for
+//! one number in any format.
 //!
 //! A `char`, a `bool`, an `Option` of a part and a reference to a part are also parts, and with the feature `alloc` a
 //! reference to a `String`. This crate has these parts:

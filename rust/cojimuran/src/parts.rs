@@ -30,7 +30,7 @@
 
 // The trait that each part implements, and what keeps others from defining some of its methods.
 mod part;
-mod sealed;
+pub(crate) mod sealed;
 
 // The parts, by what their texts are.
 mod layout;

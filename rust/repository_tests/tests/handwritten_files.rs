@@ -2,6 +2,7 @@
 
 use cojimuran::{Append, Bytes, Center, Displayed, Joined, Left, Lower, Padded, Part, Right, Show, Shown, ZeroPadded};
 use std::borrow::Cow;
+use std::cell::Cell;
 use std::fmt::{self, Write};
 use std::net::Ipv4Addr;
 #[cfg(target_pointer_width = "64")]
@@ -82,6 +83,43 @@ fn values_with_display() {
     let mut pieces = String::new();
     line.write_pieces(&mut pieces).unwrap();
     assert_eq!(pieces, text);
+}
+
+/// A value that counts how often it is formatted.
+struct Counted(Cell<usize>);
+
+impl fmt::Display for Counted {
+    fn fmt(&self, f: &mut fmt::Formatter<'_>) -> fmt::Result {
+        self.0.set(self.0.get() + 1);
+        f.write_str("text")
+    }
+}
+
+#[test]
+fn how_often_a_value_is_formatted() {
+    let value = Counted(Cell::new(0));
+    let line = ("a", Displayed(&value), 7u64);
+    let check = |times, name: &str, call: &dyn Fn()| {
+        value.0.set(0);
+        call();
+        assert_eq!(value.0.get(), times, "{name}");
+    };
+    check(1, "to_str", &|| assert_eq!(line.to_str(&mut [0; 25]), "atext7"));
+    check(1, "to_text", &|| assert_eq!(line.to_text(&mut [0; 25]), b"atext7"));
+    check(2, "try_to_str", &|| assert_eq!(line.try_to_str(&mut [0; 25]), Some("atext7")));
+    check(1, "write_pieces", &|| line.write_pieces(&mut String::new()).unwrap());
+    check(1, "append_to a String", &|| line.append_to(&mut String::new()));
+    check(2, "append_to a Vec", &|| line.append_to(&mut Vec::new()));
+}
+
+#[test]
+fn values_with_display_need_no_room_but_their_text() {
+    // The room of the first part of the line, and the text of the second.
+    let line = (7u64, Displayed(&12345));
+    assert!(catch_unwind(|| line.to_str(&mut [0; 19]).len()).is_err());
+    assert_eq!(line.to_str(&mut [0; 20]), "712345");
+    assert!(catch_unwind(|| Displayed(&12345).to_str(&mut [0; 4]).len()).is_err());
+    assert_eq!(Displayed(&12345).to_str(&mut [0; 5]), "12345");
 }
 
 /// A value that cannot be formatted.

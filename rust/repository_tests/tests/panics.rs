@@ -11,11 +11,25 @@ use cojimuran::padded::write_padded;
 use cojimuran::radix::{Radix, digit_to_char};
 use cojimuran::write::WriteInteger;
 use cojimuran::{
-    Append, Bytes, Digits, Fixed, Hex, Joined, Left, NumberFormatBuilder, Padded, PaddedDigits, Part, Right, ToLexical,
-    TrimmedFixed, UnsignedInteger, jeaiii, table, write_field, write_with_length,
+    Append, Byte, Bytes, Digits, Fixed, Hex, Joined, Left, NumberFormatBuilder, Padded, PaddedDigits, Part, Right,
+    ToLexical, TrimmedFixed, UnsignedInteger, jeaiii, table, write_field, write_with_length,
 };
 use repository_tests::calls::{check_in_time, panic_message};
 use repository_tests::documented_panics::{Panicking, SHORT_BUFFER, check_each_has_a_call};
+
+/// A part whose text is shorter than its room.
+#[derive(Clone, Copy)]
+struct Short;
+
+impl Part for Short {
+    fn room(self) -> usize {
+        9
+    }
+
+    fn write_to(self, buffer: &mut [u8]) -> usize {
+        'a'.write_to(buffer)
+    }
+}
 
 /// Takes rows `CONDITION, MESSAGE: CALL, ..;`. Checks that each call panics with a message that contains this one, and
 /// adds the call to those that panic if the condition of the documentation is true.
@@ -99,7 +113,10 @@ fn buffers(tried: &mut Vec<Panicking>) {
             7u64.to_str(&mut buffer[..19]), Hex(7u64).to_str(&mut buffer[..15]),
             ("id=", 7u64).to_str(&mut buffer[..22]), (true, 'a', "b").to_str(&mut buffer[..9]),
             Fixed(7u64, 2).to_str(&mut buffer[..20]), Right(7u8, 2, b' ').to_str(&mut buffer[..2]),
-            Joined(&list, ",").to_str(&mut buffer[..6]), Some(7i8).to_str(&mut buffer[..3]);
+            Joined(&list, ",").to_str(&mut buffer[..6]), Some(7i8).to_str(&mut buffer[..3]),
+            // Such a text is checked to be UTF-8.
+            ("id=", &String::from("abc"), 7u64).to_str(&mut buffer[..25]), Short.to_str(&mut buffer[..8]),
+            ("é", Byte(200), 7u64).to_str(&mut buffer[..22]);
         "the text does not have `count` bytes", "the text does not have `count` bytes": write_field("ab", 0, 3, buffer);
         "the length and `extra` together are above `usize::MAX`",
             "the length and `extra` together are above usize::MAX":

@@ -39,6 +39,12 @@ impl<A: Part, B: Part> Part for (A, B) {
     fn is_known_valid_and_utf8(self, sealed: Sealed) -> bool {
         self.0.is_known_valid_and_utf8(sealed) && self.1.is_known_valid_and_utf8(sealed)
     }
+
+    fn room_bound(self, sealed: Sealed) -> usize {
+        self.0
+            .room_bound(sealed)
+            .saturating_add(self.1.room_bound(sealed))
+    }
 }
 
 impl<A: Show, B: Show> Show for (A, B) {
@@ -78,6 +84,10 @@ impl<A: Part, B: Part, C: Part> Part for (A, B, C) {
     fn is_known_valid_and_utf8(self, sealed: Sealed) -> bool {
         (self.0, (self.1, self.2)).is_known_valid_and_utf8(sealed)
     }
+
+    fn room_bound(self, sealed: Sealed) -> usize {
+        (self.0, (self.1, self.2)).room_bound(sealed)
+    }
 }
 
 impl<A: Show, B: Show, C: Show> Show for (A, B, C) {
@@ -115,6 +125,10 @@ impl<A: Part, B: Part, C: Part, D: Part> Part for (A, B, C, D) {
 
     fn is_known_valid_and_utf8(self, sealed: Sealed) -> bool {
         (self.0, (self.1, self.2, self.3)).is_known_valid_and_utf8(sealed)
+    }
+
+    fn room_bound(self, sealed: Sealed) -> usize {
+        (self.0, (self.1, self.2, self.3)).room_bound(sealed)
     }
 }
 
@@ -157,6 +171,10 @@ impl<A: Part, B: Part, C: Part, D: Part, E: Part> Part for (A, B, C, D, E) {
 
     fn is_known_valid_and_utf8(self, sealed: Sealed) -> bool {
         (self.0, (self.1, self.2, self.3, self.4)).is_known_valid_and_utf8(sealed)
+    }
+
+    fn room_bound(self, sealed: Sealed) -> usize {
+        (self.0, (self.1, self.2, self.3, self.4)).room_bound(sealed)
     }
 }
 
@@ -201,6 +219,10 @@ impl<A: Part, B: Part, C: Part, D: Part, E: Part, F: Part> Part for (A, B, C, D,
     fn is_known_valid_and_utf8(self, sealed: Sealed) -> bool {
         (self.0, (self.1, self.2, self.3, self.4, self.5)).is_known_valid_and_utf8(sealed)
     }
+
+    fn room_bound(self, sealed: Sealed) -> usize {
+        (self.0, (self.1, self.2, self.3, self.4, self.5)).room_bound(sealed)
+    }
 }
 
 impl<A: Show, B: Show, C: Show, D: Show, E: Show, F: Show> Show for (A, B, C, D, E, F) {
@@ -243,6 +265,10 @@ impl<A: Part, B: Part, C: Part, D: Part, E: Part, F: Part, G: Part> Part for (A,
 
     fn is_known_valid_and_utf8(self, sealed: Sealed) -> bool {
         (self.0, (self.1, self.2, self.3, self.4, self.5, self.6)).is_known_valid_and_utf8(sealed)
+    }
+
+    fn room_bound(self, sealed: Sealed) -> usize {
+        (self.0, (self.1, self.2, self.3, self.4, self.5, self.6)).room_bound(sealed)
     }
 }
 
@@ -291,6 +317,11 @@ impl<A: Part, B: Part, C: Part, D: Part, E: Part, F: Part, G: Part, H: Part> Par
     fn is_known_valid_and_utf8(self, sealed: Sealed) -> bool {
         let (a, b, c, d, e, f, g, h) = self;
         (a, (b, c, d, e, f, g, h)).is_known_valid_and_utf8(sealed)
+    }
+
+    fn room_bound(self, sealed: Sealed) -> usize {
+        let (a, b, c, d, e, f, g, h) = self;
+        (a, (b, c, d, e, f, g, h)).room_bound(sealed)
     }
 }
 
@@ -347,6 +378,11 @@ impl<A: Part, B: Part, C: Part, D: Part, E: Part, F: Part, G: Part, H: Part, I: 
         let (a, b, c, d, e, f, g, h, i) = self;
         (a, (b, c, d, e, f, g, h, i)).is_known_valid_and_utf8(sealed)
     }
+
+    fn room_bound(self, sealed: Sealed) -> usize {
+        let (a, b, c, d, e, f, g, h, i) = self;
+        (a, (b, c, d, e, f, g, h, i)).room_bound(sealed)
+    }
 }
 
 impl<A: Show, B: Show, C: Show, D: Show, E: Show, F: Show, G: Show, H: Show, I: Show> Show
@@ -401,6 +437,11 @@ impl<A: Part, B: Part, C: Part, D: Part, E: Part, F: Part, G: Part, H: Part, I: 
     fn is_known_valid_and_utf8(self, sealed: Sealed) -> bool {
         let (a, b, c, d, e, f, g, h, i, j) = self;
         (a, (b, c, d, e, f, g, h, i, j)).is_known_valid_and_utf8(sealed)
+    }
+
+    fn room_bound(self, sealed: Sealed) -> usize {
+        let (a, b, c, d, e, f, g, h, i, j) = self;
+        (a, (b, c, d, e, f, g, h, i, j)).room_bound(sealed)
     }
 }
 
@@ -468,6 +509,11 @@ impl<
     fn is_known_valid_and_utf8(self, sealed: Sealed) -> bool {
         let (a, b, c, d, e, f, g, h, i, j, k) = self;
         (a, (b, c, d, e, f, g, h, i, j, k)).is_known_valid_and_utf8(sealed)
+    }
+
+    fn room_bound(self, sealed: Sealed) -> usize {
+        let (a, b, c, d, e, f, g, h, i, j, k) = self;
+        (a, (b, c, d, e, f, g, h, i, j, k)).room_bound(sealed)
     }
 }
 
@@ -548,6 +594,11 @@ impl<
     fn is_known_valid_and_utf8(self, sealed: Sealed) -> bool {
         let (a, b, c, d, e, f, g, h, i, j, k, l) = self;
         (a, (b, c, d, e, f, g, h, i, j, k, l)).is_known_valid_and_utf8(sealed)
+    }
+
+    fn room_bound(self, sealed: Sealed) -> usize {
+        let (a, b, c, d, e, f, g, h, i, j, k, l) = self;
+        (a, (b, c, d, e, f, g, h, i, j, k, l)).room_bound(sealed)
     }
 }
 

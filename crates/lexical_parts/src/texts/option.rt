@@ -57,6 +57,13 @@ impl<P: Part> Part for Option<P> {
             None => true,
         }
     }
+
+    fn room_bound(self, sealed: Sealed) -> usize {
+        match self {
+            Some(part) => part.room_bound(sealed),
+            None => 0,
+        }
+    }
 }
 
 impl<P: Show> Show for Option<P> {
@@ -128,6 +135,13 @@ impl<P: Part, Q: Part> Part for OrElse<P, Q> {
         match self.0 {
             Some(present) => present.is_known_valid_and_utf8(sealed),
             None => self.1.is_known_valid_and_utf8(sealed),
+        }
+    }
+
+    fn room_bound(self, sealed: Sealed) -> usize {
+        match self.0 {
+            Some(present) => present.room_bound(sealed),
+            None => self.1.room_bound(sealed),
         }
     }
 }

@@ -29,6 +29,10 @@ impl<P: Part> Part for &P {
     fn is_known_valid_and_utf8(self, sealed: Sealed) -> bool {
         (*self).is_known_valid_and_utf8(sealed)
     }
+
+    fn room_bound(self, sealed: Sealed) -> usize {
+        (*self).room_bound(sealed)
+    }
 }
 
 impl<P: Show> Show for &P {

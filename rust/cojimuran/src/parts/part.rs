@@ -136,7 +136,7 @@ pub trait Part: Copy {
     fn to_str(self, buffer: &mut [u8]) -> &str {
         let is_known_utf8 = self.is_known_valid_and_utf8(Sealed);
         assert!(
-            !is_known_utf8 || has_room(self, buffer),
+            has_room(self, buffer),
             "the buffer is shorter than the room of the part"
         );
         let text = self.to_text(buffer);
