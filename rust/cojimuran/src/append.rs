@@ -45,6 +45,7 @@ pub trait Append: Show {
     /// If the part is not valid, or if the text for a `String` is not UTF-8, or if the vector would reserve more than
     /// `isize::MAX` bytes. A `String` is then unchanged, and a `Vec` may have some of the text and zeros at its end. If
     /// there is not enough memory, the process aborts, as it does for `Vec::push`.
+    #[track_caller]
     fn append_to<T: AppendTarget>(self, target: &mut T);
 }
 
@@ -72,6 +73,7 @@ impl<P: Show> Append for P {
 /// ```
 pub trait AppendTarget: sealed::Sealed {
     #[doc(hidden)]
+    #[track_caller]
     fn append_part<P: Show>(&mut self, part: P);
 }
 
@@ -101,7 +103,6 @@ impl AppendTarget for Vec<u8> {
 
 impl AppendTarget for String {
     #[cfg_attr(not(debug_assertions), inline(always))]
-    #[track_caller]
     fn append_part<P: Show>(&mut self, part: P) {
         // Other texts go out in pieces: each of these is a `&str` already, and a `Displayed` is formatted only once.
         if part.is_known_valid_and_utf8(Sealed) && part.room() <= MOST_AT_ONCE {

@@ -19,10 +19,11 @@ use core::fmt::{self, Display, Write};
 /// ```
 ///
 /// The value is formatted once to write it, and once more each time that a call asks for its [`room`](Part::room) or
-/// its length, as `try_to_str` and `append_to` a `Vec` do. It must write the same text each time.
+/// its length: `try_to_str` and `append_to` a `Vec` ask once, and `write_pieces`, `{}` and `append_to` a `String` once
+/// for each column or `ZeroPadded` around the value. It must write the same text each time.
 ///
-/// A `u128` has at most 39 bytes and an `i128` at most 40. Other texts can be long: `{}` of `1e300` has 301 bytes. So take
-/// [`room`](Part::room) bytes, `write_pieces`, or a format with a limit such as `{:.3e}`.
+/// A `u128` has at most 39 bytes and an `i128` at most 40. Other texts can be long: `{}` of `1e300` has 301 bytes. So
+/// take [`room`](Part::room) bytes, `write_pieces`, or a format with a limit such as `{:.3e}`.
 ///
 /// This part is not proved: what it writes is what the `Display` of the value does. If that `Display` returns an error,
 /// `write_pieces` and `{}` return it, and the other calls panic.
@@ -73,12 +74,14 @@ impl Write for Rest<'_> {
 
 impl<T: Display + ?Sized> Part for Displayed<'_, T> {
     #[inline]
+    #[track_caller]
     fn room(self) -> usize {
         self.text_len()
             .expect("the `Display` of the value returned an error")
     }
 
     #[inline]
+    #[track_caller]
     fn write_to(self, buffer: &mut [u8]) -> usize {
         let length = buffer.len();
         let mut rest = Rest(buffer);

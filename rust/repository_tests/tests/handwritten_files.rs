@@ -110,6 +110,16 @@ fn how_often_a_value_is_formatted() {
     check(1, "write_pieces", &|| line.write_pieces(&mut String::new()).unwrap());
     check(1, "append_to a String", &|| line.append_to(&mut String::new()));
     check(2, "append_to a Vec", &|| line.append_to(&mut Vec::new()));
+
+    let column = Right(Displayed(&value), 6, b'.');
+    check(1, "to_str of a column", &|| assert_eq!(column.to_str(&mut [0; 6]), "..text"));
+    check(2, "write_pieces of a column", &|| column.write_pieces(&mut String::new()).unwrap());
+    check(3, "write_pieces of a column in a column", &|| {
+        Left(column, 8, b'.').write_pieces(&mut String::new()).unwrap();
+    });
+    check(2, "append_to a Vec of a column", &|| column.append_to(&mut Vec::new()));
+    let list = [Displayed(&value)];
+    check(1, "to_str of Joined", &|| assert_eq!(Joined(&list, "").to_str(&mut [0; 4]), "text"));
 }
 
 #[test]

@@ -115,6 +115,9 @@ pub(crate) const SOURCES: &[Source] = &[
                 functions: "numbers/integers.rt:write_to numbers/fixed.rt:write_to",
                 ..NONE
             },
+            // Some parts are formatted as others in a constant radix. If that radix were not known there, `{}` of a
+            // `Decimal` would have the code of the other radices too.
+            Attributes { functions: "fmt text_or_error", ..ALWAYS },
             // In a caller the radix, the texts and the widths are often constant. Each function on the way to the
             // digits must be in the caller too: one that two callers share would have the code of every radix. Only
             // what is behind a reference is called, so that a caller can say where its code ends.
@@ -122,22 +125,15 @@ pub(crate) const SOURCES: &[Source] = &[
                 functions: "
                     texts/lower.rt:room texts/lower.rt:write_to texts/lower.rt:write_pieces layout/column.rt:room
                     layout/column.rt:write_to layout/zero_padded.rt:room layout/zero_padded.rt:write_to
-                    formatting/show.rt:write_pieces write_in_one_piece write_field write_with_length
+                    numbers/trimmed.rt:room
+                    formatting/show.rt:write_pieces write_in_one_piece write_field write_with_length to_text
                     write_at try_write_to write_if_it_fits try_to_str str_if_it_fits
                     is_known_valid_and_utf8 room_bound has_room",
-                files: "numbers/padded.rt numbers/compact.rt texts/option.rt",
-                ..ALWAYS
-            },
-            // Some parts are formatted as others in a constant radix. If that radix were not known there, `{}` of a
-            // `Decimal` would have the code of the other radices too.
-            Attributes { functions: "fmt text_or_error", ..ALWAYS },
-            // A panic of a short buffer names the line of the caller.
-            Attributes {
-                functions: "to_text",
                 files: "
                     layout/tuples.rt layout/joined.rt numbers/integers.rt numbers/decimal.rt numbers/digits.rt
-                    numbers/formatted.rt numbers/powers_of_two.rt numbers/fixed.rt texts/strings.rt texts/words.rt
-                    texts/chars.rt texts/bytes.rt",
+                    numbers/formatted.rt numbers/powers_of_two.rt numbers/fixed.rt numbers/padded.rt
+                    numbers/compact.rt texts/strings.rt texts/words.rt texts/chars.rt texts/bytes.rt
+                    texts/option.rt",
                 ..ALWAYS_TRACKED
             },
         ],

@@ -50,6 +50,10 @@ impl<P: Part> Part for Left<P> {
     fn is_known_valid_and_utf8(self, sealed: Sealed) -> bool {
         self.2 < 128 && self.0.is_known_valid_and_utf8(sealed)
     }
+
+    fn room_bound(self, sealed: Sealed) -> usize {
+        self.0.room_bound(sealed).max(self.1)
+    }
 }
 
 impl<P: Show> Show for Left<P> {
@@ -108,6 +112,10 @@ impl<P: Part> Part for Right<P> {
 
     fn is_known_valid_and_utf8(self, sealed: Sealed) -> bool {
         self.2 < 128 && self.0.is_known_valid_and_utf8(sealed)
+    }
+
+    fn room_bound(self, sealed: Sealed) -> usize {
+        self.0.room_bound(sealed).max(self.1)
     }
 }
 
@@ -170,6 +178,10 @@ impl<P: Part> Part for Center<P> {
 
     fn is_known_valid_and_utf8(self, sealed: Sealed) -> bool {
         self.2 < 128 && self.0.is_known_valid_and_utf8(sealed)
+    }
+
+    fn room_bound(self, sealed: Sealed) -> usize {
+        self.0.room_bound(sealed).max(self.1)
     }
 }
 

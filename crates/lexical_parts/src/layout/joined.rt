@@ -105,8 +105,17 @@ impl<P: Part> Part for Joined<'_, P> {
                 return false;
             }
         }
-        // Also without parts, since no bytes are UTF-8.
+        // Also without parts, since an empty text is UTF-8.
         true
+    }
+
+    fn room_bound(self, sealed: Sealed) -> usize {
+        let separators = self.0.len().saturating_sub(1);
+        let mut bound = separators.saturating_mul(self.1.len());
+        for part in self.0 {
+            bound = bound.saturating_add(part.room_bound(sealed));
+        }
+        bound
     }
 }
 

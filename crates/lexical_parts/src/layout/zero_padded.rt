@@ -64,6 +64,10 @@ impl<P: Part> Part for ZeroPadded<P> {
     fn is_known_valid_and_utf8(self, sealed: Sealed) -> bool {
         self.0.is_known_valid_and_utf8(sealed)
     }
+
+    fn room_bound(self, sealed: Sealed) -> usize {
+        self.0.room_bound(sealed).max(self.1)
+    }
 }
 
 impl<P: Show> Show for ZeroPadded<P> {

@@ -53,7 +53,7 @@ impl<P: Part> Part for Option<P> {
     {
         match self {
             Some(part) => part.is_known_valid_and_utf8(sealed),
-            // No bytes are UTF-8.
+            // An empty text is UTF-8.
             None => true,
         }
     }

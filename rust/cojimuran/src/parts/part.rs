@@ -63,6 +63,7 @@ pub trait Part: Copy {
     #[doc(hidden)]
     #[must_use]
     #[inline(always)]
+    #[track_caller]
     fn is_known_valid_and_utf8(self, _sealed: Sealed) -> bool {
         false
     }
@@ -72,6 +73,7 @@ pub trait Part: Copy {
     #[doc(hidden)]
     #[must_use]
     #[inline(always)]
+    #[track_caller]
     fn room_bound(self, _sealed: Sealed) -> usize {
         self.room()
     }
@@ -97,6 +99,7 @@ pub trait Part: Copy {
     ///
     /// If the part is not valid, or if the buffer is [too short](crate::conditions).
     #[inline(always)]
+    #[track_caller]
     fn write_at(self, index: usize, buffer: &mut [u8]) -> usize {
         index + self.write_to(&mut buffer[index..])
     }
@@ -110,6 +113,7 @@ pub trait Part: Copy {
     ///
     /// If the part is not valid.
     #[inline(always)]
+    #[track_caller]
     fn try_write_to(self, buffer: &mut [u8]) -> Option<usize> {
         if self.room() <= buffer.len() {
             return Some(self.write_to(buffer));
@@ -159,6 +163,7 @@ pub trait Part: Copy {
     ///
     /// If the part is not valid, or if the text of the part is not UTF-8.
     #[inline(always)]
+    #[track_caller]
     fn try_to_str(self, buffer: &mut [u8]) -> Option<&str> {
         if self.room() <= buffer.len() {
             return Some(self.to_str(buffer));
@@ -171,6 +176,7 @@ pub trait Part: Copy {
 // buffer is as long as the text. If rustc did not inline it, each caller would write its part to the stack for this
 // call.
 #[inline(always)]
+#[track_caller]
 fn write_if_it_fits<P: Part>(part: P, buffer: &mut [u8]) -> Option<usize> {
     let mut array = [0; 256];
     if array.len() < part.room() {
@@ -185,6 +191,7 @@ fn write_if_it_fits<P: Part>(part: P, buffer: &mut [u8]) -> Option<usize> {
 
 // Returns what `write_if_it_fits` writes as a `&str`.
 #[inline(always)]
+#[track_caller]
 fn str_if_it_fits<P: Part>(part: P, buffer: &mut [u8]) -> Option<&str> {
     let count = write_if_it_fits(part, buffer)?;
     let checked = from_utf8(&buffer[..count]);
@@ -194,6 +201,7 @@ fn str_if_it_fits<P: Part>(part: P, buffer: &mut [u8]) -> Option<&str> {
 
 // Returns whether the buffer has the room of the part.
 #[inline(always)]
+#[track_caller]
 fn has_room<P: Part>(part: P, buffer: &[u8]) -> bool {
     part.room_bound(Sealed) <= buffer.len() || part.room() <= buffer.len()
 }

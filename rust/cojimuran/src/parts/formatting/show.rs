@@ -44,6 +44,7 @@ pub trait Show: Part {
     /// your own it also returns an error if its room is above 256 bytes and you do not define this method, or if it
     /// does not write the same text each time. If it returns an error, the writer may have a part of the text.
     #[inline(always)]
+    #[track_caller]
     fn write_pieces<O: fmt::Write>(self, out: &mut O) -> fmt::Result {
         if !self.is_showable() {
             return Err(fmt::Error);
@@ -54,6 +55,7 @@ pub trait Show: Part {
 
 // Writes the text to a writer with one call, or returns an error if the room is above 256 bytes.
 #[inline(always)]
+#[track_caller]
 pub(crate) fn write_in_one_piece<P: Part, O: fmt::Write>(part: P, out: &mut O) -> fmt::Result {
     if part.room() > MOST_IN_ONE_PIECE {
         return Err(fmt::Error);

@@ -24,11 +24,13 @@ pub struct Left<P>(pub P, pub usize, pub u8);
 
 impl<P: Part> Part for Left<P> {
     #[inline(always)]
+    #[track_caller]
     fn room(self) -> usize {
         self.0.room().max(self.1)
     }
 
     #[inline(always)]
+    #[track_caller]
     fn write_to(self, buffer: &mut [u8]) -> usize {
         let count = self.0.write_to(buffer);
         count + write_fill(self.2, self.1.saturating_sub(count), &mut buffer[count..])
@@ -40,8 +42,15 @@ impl<P: Part> Part for Left<P> {
     }
 
     #[inline(always)]
+    #[track_caller]
     fn is_known_valid_and_utf8(self, sealed: Sealed) -> bool {
         self.2 < 128 && self.0.is_known_valid_and_utf8(sealed)
+    }
+
+    #[inline(always)]
+    #[track_caller]
+    fn room_bound(self, sealed: Sealed) -> usize {
+        self.0.room_bound(sealed).max(self.1)
     }
 }
 
@@ -77,11 +86,13 @@ pub struct Right<P>(pub P, pub usize, pub u8);
 
 impl<P: Part> Part for Right<P> {
     #[inline(always)]
+    #[track_caller]
     fn room(self) -> usize {
         self.0.room().max(self.1)
     }
 
     #[inline(always)]
+    #[track_caller]
     fn write_to(self, buffer: &mut [u8]) -> usize {
         let count = self.0.write_to(buffer);
         let added = self.1.saturating_sub(count);
@@ -95,8 +106,15 @@ impl<P: Part> Part for Right<P> {
     }
 
     #[inline(always)]
+    #[track_caller]
     fn is_known_valid_and_utf8(self, sealed: Sealed) -> bool {
         self.2 < 128 && self.0.is_known_valid_and_utf8(sealed)
+    }
+
+    #[inline(always)]
+    #[track_caller]
+    fn room_bound(self, sealed: Sealed) -> usize {
+        self.0.room_bound(sealed).max(self.1)
     }
 }
 
@@ -133,11 +151,13 @@ pub struct Center<P>(pub P, pub usize, pub u8);
 
 impl<P: Part> Part for Center<P> {
     #[inline(always)]
+    #[track_caller]
     fn room(self) -> usize {
         self.0.room().max(self.1)
     }
 
     #[inline(always)]
+    #[track_caller]
     fn write_to(self, buffer: &mut [u8]) -> usize {
         let count = self.0.write_to(buffer);
         let added = self.1.saturating_sub(count);
@@ -153,8 +173,15 @@ impl<P: Part> Part for Center<P> {
     }
 
     #[inline(always)]
+    #[track_caller]
     fn is_known_valid_and_utf8(self, sealed: Sealed) -> bool {
         self.2 < 128 && self.0.is_known_valid_and_utf8(sealed)
+    }
+
+    #[inline(always)]
+    #[track_caller]
+    fn room_bound(self, sealed: Sealed) -> usize {
+        self.0.room_bound(sealed).max(self.1)
     }
 }
 

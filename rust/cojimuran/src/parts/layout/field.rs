@@ -22,6 +22,7 @@ use crate::parts::part::Part;
 /// If the part is not valid, or if the text does not have `count` bytes, or if the buffer is
 /// [too short](crate::conditions).
 #[inline(always)]
+#[track_caller]
 pub fn write_field<P: Part>(part: P, index: usize, count: usize, buffer: &mut [u8]) {
     let end = part.write_at(index, buffer);
     // In Rust nothing else refuses a text of another length.

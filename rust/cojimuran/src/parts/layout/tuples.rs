@@ -32,11 +32,13 @@ impl<A: Part, B: Part> Part for (A, B) {
     }
 
     #[inline(always)]
+    #[track_caller]
     fn is_known_valid_and_utf8(self, sealed: Sealed) -> bool {
         self.0.is_known_valid_and_utf8(sealed) && self.1.is_known_valid_and_utf8(sealed)
     }
 
     #[inline(always)]
+    #[track_caller]
     fn room_bound(self, sealed: Sealed) -> usize {
         self.0
             .room_bound(sealed)
@@ -79,11 +81,13 @@ impl<A: Part, B: Part, C: Part> Part for (A, B, C) {
     }
 
     #[inline(always)]
+    #[track_caller]
     fn is_known_valid_and_utf8(self, sealed: Sealed) -> bool {
         (self.0, (self.1, self.2)).is_known_valid_and_utf8(sealed)
     }
 
     #[inline(always)]
+    #[track_caller]
     fn room_bound(self, sealed: Sealed) -> usize {
         (self.0, (self.1, self.2)).room_bound(sealed)
     }
@@ -123,11 +127,13 @@ impl<A: Part, B: Part, C: Part, D: Part> Part for (A, B, C, D) {
     }
 
     #[inline(always)]
+    #[track_caller]
     fn is_known_valid_and_utf8(self, sealed: Sealed) -> bool {
         (self.0, (self.1, self.2, self.3)).is_known_valid_and_utf8(sealed)
     }
 
     #[inline(always)]
+    #[track_caller]
     fn room_bound(self, sealed: Sealed) -> usize {
         (self.0, (self.1, self.2, self.3)).room_bound(sealed)
     }
@@ -167,11 +173,13 @@ impl<A: Part, B: Part, C: Part, D: Part, E: Part> Part for (A, B, C, D, E) {
     }
 
     #[inline(always)]
+    #[track_caller]
     fn is_known_valid_and_utf8(self, sealed: Sealed) -> bool {
         (self.0, (self.1, self.2, self.3, self.4)).is_known_valid_and_utf8(sealed)
     }
 
     #[inline(always)]
+    #[track_caller]
     fn room_bound(self, sealed: Sealed) -> usize {
         (self.0, (self.1, self.2, self.3, self.4)).room_bound(sealed)
     }
@@ -211,11 +219,13 @@ impl<A: Part, B: Part, C: Part, D: Part, E: Part, F: Part> Part for (A, B, C, D,
     }
 
     #[inline(always)]
+    #[track_caller]
     fn is_known_valid_and_utf8(self, sealed: Sealed) -> bool {
         (self.0, (self.1, self.2, self.3, self.4, self.5)).is_known_valid_and_utf8(sealed)
     }
 
     #[inline(always)]
+    #[track_caller]
     fn room_bound(self, sealed: Sealed) -> usize {
         (self.0, (self.1, self.2, self.3, self.4, self.5)).room_bound(sealed)
     }
@@ -255,11 +265,13 @@ impl<A: Part, B: Part, C: Part, D: Part, E: Part, F: Part, G: Part> Part for (A,
     }
 
     #[inline(always)]
+    #[track_caller]
     fn is_known_valid_and_utf8(self, sealed: Sealed) -> bool {
         (self.0, (self.1, self.2, self.3, self.4, self.5, self.6)).is_known_valid_and_utf8(sealed)
     }
 
     #[inline(always)]
+    #[track_caller]
     fn room_bound(self, sealed: Sealed) -> usize {
         (self.0, (self.1, self.2, self.3, self.4, self.5, self.6)).room_bound(sealed)
     }
@@ -304,12 +316,14 @@ impl<A: Part, B: Part, C: Part, D: Part, E: Part, F: Part, G: Part, H: Part> Par
     }
 
     #[inline(always)]
+    #[track_caller]
     fn is_known_valid_and_utf8(self, sealed: Sealed) -> bool {
         let (a, b, c, d, e, f, g, h) = self;
         (a, (b, c, d, e, f, g, h)).is_known_valid_and_utf8(sealed)
     }
 
     #[inline(always)]
+    #[track_caller]
     fn room_bound(self, sealed: Sealed) -> usize {
         let (a, b, c, d, e, f, g, h) = self;
         (a, (b, c, d, e, f, g, h)).room_bound(sealed)
@@ -359,12 +373,14 @@ impl<A: Part, B: Part, C: Part, D: Part, E: Part, F: Part, G: Part, H: Part, I: 
     }
 
     #[inline(always)]
+    #[track_caller]
     fn is_known_valid_and_utf8(self, sealed: Sealed) -> bool {
         let (a, b, c, d, e, f, g, h, i) = self;
         (a, (b, c, d, e, f, g, h, i)).is_known_valid_and_utf8(sealed)
     }
 
     #[inline(always)]
+    #[track_caller]
     fn room_bound(self, sealed: Sealed) -> usize {
         let (a, b, c, d, e, f, g, h, i) = self;
         (a, (b, c, d, e, f, g, h, i)).room_bound(sealed)
@@ -414,12 +430,14 @@ impl<A: Part, B: Part, C: Part, D: Part, E: Part, F: Part, G: Part, H: Part, I: 
     }
 
     #[inline(always)]
+    #[track_caller]
     fn is_known_valid_and_utf8(self, sealed: Sealed) -> bool {
         let (a, b, c, d, e, f, g, h, i, j) = self;
         (a, (b, c, d, e, f, g, h, i, j)).is_known_valid_and_utf8(sealed)
     }
 
     #[inline(always)]
+    #[track_caller]
     fn room_bound(self, sealed: Sealed) -> usize {
         let (a, b, c, d, e, f, g, h, i, j) = self;
         (a, (b, c, d, e, f, g, h, i, j)).room_bound(sealed)
@@ -480,12 +498,14 @@ impl<
     }
 
     #[inline(always)]
+    #[track_caller]
     fn is_known_valid_and_utf8(self, sealed: Sealed) -> bool {
         let (a, b, c, d, e, f, g, h, i, j, k) = self;
         (a, (b, c, d, e, f, g, h, i, j, k)).is_known_valid_and_utf8(sealed)
     }
 
     #[inline(always)]
+    #[track_caller]
     fn room_bound(self, sealed: Sealed) -> usize {
         let (a, b, c, d, e, f, g, h, i, j, k) = self;
         (a, (b, c, d, e, f, g, h, i, j, k)).room_bound(sealed)
@@ -558,12 +578,14 @@ impl<
     }
 
     #[inline(always)]
+    #[track_caller]
     fn is_known_valid_and_utf8(self, sealed: Sealed) -> bool {
         let (a, b, c, d, e, f, g, h, i, j, k, l) = self;
         (a, (b, c, d, e, f, g, h, i, j, k, l)).is_known_valid_and_utf8(sealed)
     }
 
     #[inline(always)]
+    #[track_caller]
     fn room_bound(self, sealed: Sealed) -> usize {
         let (a, b, c, d, e, f, g, h, i, j, k, l) = self;
         (a, (b, c, d, e, f, g, h, i, j, k, l)).room_bound(sealed)

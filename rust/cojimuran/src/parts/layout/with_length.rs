@@ -24,6 +24,7 @@ use crate::write_integer::padded::write_padded;
 /// If the part is not valid, or if the radix is not from 2 to 36, or if the buffer is [too short](crate::conditions),
 /// or if the length has more digits than `width`, or if the length and `extra` together are above `usize::MAX`.
 #[inline(always)]
+#[track_caller]
 pub fn write_with_length<P: Part>(
     part: P,
     radix: u32,

@@ -32,11 +32,13 @@ pub struct ZeroPadded<P>(pub P, pub usize);
 
 impl<P: Part> Part for ZeroPadded<P> {
     #[inline(always)]
+    #[track_caller]
     fn room(self) -> usize {
         self.0.room().max(self.1)
     }
 
     #[inline(always)]
+    #[track_caller]
     fn write_to(self, buffer: &mut [u8]) -> usize {
         let count = self.0.write_to(buffer);
         let sign = length_of_sign(&buffer[..count]);
@@ -51,8 +53,15 @@ impl<P: Part> Part for ZeroPadded<P> {
     }
 
     #[inline(always)]
+    #[track_caller]
     fn is_known_valid_and_utf8(self, sealed: Sealed) -> bool {
         self.0.is_known_valid_and_utf8(sealed)
+    }
+
+    #[inline(always)]
+    #[track_caller]
+    fn room_bound(self, sealed: Sealed) -> usize {
+        self.0.room_bound(sealed).max(self.1)
     }
 }
 

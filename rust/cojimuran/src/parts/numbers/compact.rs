@@ -17,16 +17,19 @@ pub(crate) struct CompactDigits(pub u32, pub u64);
 
 impl Part for CompactDigits {
     #[inline(always)]
+    #[track_caller]
     fn room(self) -> usize {
         MOST_DIGITS
     }
 
     #[inline(always)]
+    #[track_caller]
     fn write_to(self, buffer: &mut [u8]) -> usize {
         self.1.compact(self.0, buffer)
     }
 
     #[inline(always)]
+    #[track_caller]
     fn is_known_valid_and_utf8(self, _sealed: Sealed) -> bool {
         is_radix(u64::from(self.0))
     }
@@ -38,6 +41,7 @@ pub(crate) struct CompactFormatted<'a, T>(pub T, pub &'a NumberFormat);
 
 // Writes the digits of the absolute value in the radix of the format, and returns how many there are.
 #[inline(always)]
+#[track_caller]
 fn write_digits_compactly<T: ToLexical>(
     number: T,
     format: &NumberFormat,
@@ -54,11 +58,13 @@ fn write_digits_compactly<T: ToLexical>(
 
 impl<T: ToLexical> Part for CompactFormatted<'_, T> {
     #[inline(always)]
+    #[track_caller]
     fn room(self) -> usize {
         BUFFER_SIZE
     }
 
     #[inline(always)]
+    #[track_caller]
     fn write_to(self, buffer: &mut [u8]) -> usize {
         let sign = write_sign(self.0, buffer, self.1);
         let digits = &mut buffer[sign..];
@@ -67,6 +73,7 @@ impl<T: ToLexical> Part for CompactFormatted<'_, T> {
     }
 
     #[inline(always)]
+    #[track_caller]
     fn is_known_valid_and_utf8(self, _sealed: Sealed) -> bool {
         true
     }

@@ -41,6 +41,7 @@ impl<T: ToLexical> Part for Decimal<T> {
     }
 
     #[inline(always)]
+    #[track_caller]
     fn is_known_valid_and_utf8(self, _sealed: Sealed) -> bool {
         true
     }

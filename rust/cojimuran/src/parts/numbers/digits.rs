@@ -51,11 +51,13 @@ impl<T: Radix + DigitCount> Part for Digits<T> {
     }
 
     #[inline(always)]
+    #[track_caller]
     fn room_bound(self, _sealed: Sealed) -> usize {
         most_digits::<T>(self.0)
     }
 
     #[inline(always)]
+    #[track_caller]
     fn is_known_valid_and_utf8(self, _sealed: Sealed) -> bool {
         is_radix(u64::from(self.0))
     }

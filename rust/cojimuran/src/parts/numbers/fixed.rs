@@ -92,6 +92,7 @@ impl<T: ToLexical> Part for Fixed<T> {
     }
 
     #[inline(always)]
+    #[track_caller]
     fn is_known_valid_and_utf8(self, sealed: Sealed) -> bool {
         GroupedFixed(self.0, self.1, &STANDARD).is_known_valid_and_utf8(sealed)
     }
@@ -144,6 +145,7 @@ impl<T: ToLexical> Part for GroupedFixed<'_, T> {
     }
 
     #[inline(always)]
+    #[track_caller]
     fn is_known_valid_and_utf8(self, _sealed: Sealed) -> bool {
         self.1 <= 19
     }

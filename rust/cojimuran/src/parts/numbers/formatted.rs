@@ -62,6 +62,7 @@ impl<T: ToLexical> Part for Formatted<'_, T> {
     }
 
     #[inline(always)]
+    #[track_caller]
     fn is_known_valid_and_utf8(self, _sealed: Sealed) -> bool {
         true
     }

@@ -19,6 +19,7 @@ pub(crate) const MOST_DIGITS: usize = 64;
 // Returns whether the number has so few bits that it is below `radix^width`. To count its digits costs more, and is not
 // needed if the radix is a power of two.
 #[inline(always)]
+#[track_caller]
 fn has_few_bits(number: u64, radix: u32, width: usize) -> bool {
     if width >= 64 {
         return true;
@@ -47,11 +48,13 @@ pub struct PaddedDigits<T>(pub u32, pub T, pub usize);
 
 impl<T: DigitCount + Radix> Part for PaddedDigits<T> {
     #[inline(always)]
+    #[track_caller]
     fn room(self) -> usize {
         self.2
     }
 
     #[inline(always)]
+    #[track_caller]
     fn write_to(self, buffer: &mut [u8]) -> usize {
         write_padded(self.1, self.0, &mut buffer[..self.2]);
         // `write_padded` returns the same number, but a constant width is known without its result,
@@ -60,11 +63,13 @@ impl<T: DigitCount + Radix> Part for PaddedDigits<T> {
     }
 
     #[inline(always)]
+    #[track_caller]
     fn text_len(self) -> Option<usize> {
         Some(self.2)
     }
 
     #[inline(always)]
+    #[track_caller]
     fn is_known_valid_and_utf8(self, sealed: Sealed) -> bool {
         if self.0 == 10 {
             return Padded(self.1, self.2).is_known_valid_and_utf8(sealed);
@@ -77,11 +82,13 @@ impl<T: DigitCount + Radix> Part for PaddedDigits<T> {
 
 impl<T: DigitCount + Radix> Show for PaddedDigits<T> {
     #[inline(always)]
+    #[track_caller]
     fn is_showable(self) -> bool {
         self.is_known_valid_and_utf8(Sealed)
     }
 
     #[inline(always)]
+    #[track_caller]
     fn write_pieces<O: fmt::Write>(self, out: &mut O) -> fmt::Result {
         let mut buffer = [0; MOST_DIGITS];
         let (zeros, digits) = self.zeros_and_digits(&mut buffer)?;
@@ -94,6 +101,7 @@ impl<T: DigitCount + Radix> PaddedDigits<T> {
     // Returns how many zeros the text begins with, and the digits after them. It is an error if the radix is not from 2
     // to 36, or if the number does not fit in the width.
     #[inline(always)]
+    #[track_caller]
     pub(crate) fn zeros_and_digits(
         self,
         buffer: &mut [u8; MOST_DIGITS],
@@ -127,21 +135,25 @@ pub struct Padded<T>(pub T, pub usize);
 
 impl<T: DigitCount + Radix> Part for Padded<T> {
     #[inline(always)]
+    #[track_caller]
     fn room(self) -> usize {
         self.1
     }
 
     #[inline(always)]
+    #[track_caller]
     fn write_to(self, buffer: &mut [u8]) -> usize {
         PaddedDigits(10, self.0, self.1).write_to(buffer)
     }
 
     #[inline(always)]
+    #[track_caller]
     fn text_len(self) -> Option<usize> {
         Some(self.1)
     }
 
     #[inline(always)]
+    #[track_caller]
     fn is_known_valid_and_utf8(self, _sealed: Sealed) -> bool {
         fits_decimal_width(self.0.as_u64(), self.1)
     }
@@ -149,11 +161,13 @@ impl<T: DigitCount + Radix> Part for Padded<T> {
 
 impl<T: DigitCount + Radix> Show for Padded<T> {
     #[inline(always)]
+    #[track_caller]
     fn is_showable(self) -> bool {
         self.is_known_valid_and_utf8(Sealed)
     }
 
     #[inline(always)]
+    #[track_caller]
     fn write_pieces<O: fmt::Write>(self, out: &mut O) -> fmt::Result {
         if self.1 > MOST_DIGITS {
             return PaddedDigits(10, self.0, self.1).write_pieces(out);

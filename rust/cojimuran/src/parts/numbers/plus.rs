@@ -40,6 +40,7 @@ impl<T: ToLexical> Part for Plus<T> {
     }
 
     #[inline(always)]
+    #[track_caller]
     fn is_known_valid_and_utf8(self, _sealed: Sealed) -> bool {
         true
     }

@@ -47,6 +47,7 @@ impl<T: Radix> Part for Hex<T> {
     }
 
     #[inline(always)]
+    #[track_caller]
     fn is_known_valid_and_utf8(self, _sealed: Sealed) -> bool {
         true
     }
@@ -93,6 +94,7 @@ impl<T: Radix> Part for Binary<T> {
     }
 
     #[inline(always)]
+    #[track_caller]
     fn is_known_valid_and_utf8(self, _sealed: Sealed) -> bool {
         true
     }
@@ -138,6 +140,7 @@ impl<T: DigitCount + Radix> Part for FullHex<T> {
     }
 
     #[inline(always)]
+    #[track_caller]
     fn is_known_valid_and_utf8(self, _sealed: Sealed) -> bool {
         true
     }
@@ -218,6 +221,7 @@ impl Part for HexBytes<'_> {
     }
 
     #[inline(always)]
+    #[track_caller]
     fn is_known_valid_and_utf8(self, _sealed: Sealed) -> bool {
         true
     }

@@ -92,6 +92,7 @@ impl<T: ToLexical> Part for Scientific<T> {
     }
 
     #[inline(always)]
+    #[track_caller]
     fn is_known_valid_and_utf8(self, _sealed: Sealed) -> bool {
         true
     }

@@ -43,6 +43,7 @@ impl<T: LexicalInteger> Part for Sign<T> {
     }
 
     #[inline(always)]
+    #[track_caller]
     fn is_known_valid_and_utf8(self, _sealed: Sealed) -> bool {
         true
     }

@@ -40,7 +40,8 @@ fn write_trimmed_units<T: ToLexical>(number: T, decimals: usize, buffer: &mut [u
 pub struct TrimmedFixed<T>(pub T, pub usize);
 
 impl<T: ToLexical> Part for TrimmedFixed<T> {
-    #[inline]
+    #[inline(always)]
+    #[track_caller]
     fn room(self) -> usize {
         Fixed(self.0, self.1).room()
     }
@@ -58,6 +59,7 @@ impl<T: ToLexical> Part for TrimmedFixed<T> {
     }
 
     #[inline(always)]
+    #[track_caller]
     fn is_known_valid_and_utf8(self, sealed: Sealed) -> bool {
         Fixed(self.0, self.1).is_known_valid_and_utf8(sealed)
     }

@@ -40,6 +40,7 @@ impl Part for Bytes<'_> {
     }
 
     #[inline(always)]
+    #[track_caller]
     fn is_known_valid_and_utf8(self, _sealed: Sealed) -> bool {
         from_utf8(self.0).is_ok()
     }
@@ -93,6 +94,7 @@ impl Part for Byte {
     }
 
     #[inline(always)]
+    #[track_caller]
     fn is_known_valid_and_utf8(self, _sealed: Sealed) -> bool {
         self.0 < 128
     }

@@ -23,11 +23,13 @@ pub struct Lower<P>(pub P);
 
 impl<P: Part> Part for Lower<P> {
     #[inline(always)]
+    #[track_caller]
     fn room(self) -> usize {
         self.0.room()
     }
 
     #[inline(always)]
+    #[track_caller]
     fn write_to(self, buffer: &mut [u8]) -> usize {
         let count = self.0.write_to(buffer);
         buffer[..count].make_ascii_lowercase();
@@ -40,11 +42,13 @@ impl<P: Part> Part for Lower<P> {
     }
 
     #[inline(always)]
+    #[track_caller]
     fn room_bound(self, sealed: Sealed) -> usize {
         self.0.room_bound(sealed)
     }
 
     #[inline(always)]
+    #[track_caller]
     fn is_known_valid_and_utf8(self, sealed: Sealed) -> bool {
         self.0.is_known_valid_and_utf8(sealed)
     }
@@ -57,6 +61,7 @@ impl<P: Show> Show for Lower<P> {
     }
 
     #[inline(always)]
+    #[track_caller]
     fn write_pieces<O: fmt::Write>(self, out: &mut O) -> fmt::Result {
         if !self.is_showable() {
             return Err(fmt::Error);

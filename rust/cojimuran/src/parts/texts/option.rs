@@ -10,6 +10,7 @@ use core::fmt;
 
 impl<P: Part> Part for Option<P> {
     #[inline(always)]
+    #[track_caller]
     fn room(self) -> usize {
         match self {
             Some(part) => part.room(),
@@ -18,6 +19,7 @@ impl<P: Part> Part for Option<P> {
     }
 
     #[inline(always)]
+    #[track_caller]
     fn write_to(self, buffer: &mut [u8]) -> usize {
         match self {
             Some(part) => part.write_to(buffer),
@@ -26,6 +28,7 @@ impl<P: Part> Part for Option<P> {
     }
 
     #[inline(always)]
+    #[track_caller]
     fn text_len(self) -> Option<usize> {
         match self {
             Some(part) => part.text_len(),
@@ -34,15 +37,17 @@ impl<P: Part> Part for Option<P> {
     }
 
     #[inline(always)]
+    #[track_caller]
     fn is_known_valid_and_utf8(self, sealed: Sealed) -> bool {
         match self {
             Some(part) => part.is_known_valid_and_utf8(sealed),
-            // No bytes are UTF-8.
+            // An empty text is UTF-8.
             None => true,
         }
     }
 
     #[inline(always)]
+    #[track_caller]
     fn room_bound(self, sealed: Sealed) -> usize {
         match self {
             Some(part) => part.room_bound(sealed),
@@ -53,6 +58,7 @@ impl<P: Part> Part for Option<P> {
 
 impl<P: Show> Show for Option<P> {
     #[inline(always)]
+    #[track_caller]
     fn is_showable(self) -> bool {
         match self {
             Some(part) => part.is_showable(),
@@ -61,6 +67,7 @@ impl<P: Show> Show for Option<P> {
     }
 
     #[inline(always)]
+    #[track_caller]
     fn write_pieces<O: fmt::Write>(self, out: &mut O) -> fmt::Result {
         match self {
             Some(part) => part.write_pieces(out),
@@ -83,6 +90,7 @@ pub struct OrElse<P, Q>(pub Option<P>, pub Q);
 
 impl<P: Part, Q: Part> Part for OrElse<P, Q> {
     #[inline(always)]
+    #[track_caller]
     fn room(self) -> usize {
         match self.0 {
             Some(present) => present.room(),
@@ -91,6 +99,7 @@ impl<P: Part, Q: Part> Part for OrElse<P, Q> {
     }
 
     #[inline(always)]
+    #[track_caller]
     fn write_to(self, buffer: &mut [u8]) -> usize {
         match self.0 {
             Some(present) => present.write_to(buffer),
@@ -99,6 +108,7 @@ impl<P: Part, Q: Part> Part for OrElse<P, Q> {
     }
 
     #[inline(always)]
+    #[track_caller]
     fn text_len(self) -> Option<usize> {
         match self.0 {
             Some(present) => present.text_len(),
@@ -107,6 +117,7 @@ impl<P: Part, Q: Part> Part for OrElse<P, Q> {
     }
 
     #[inline(always)]
+    #[track_caller]
     fn is_known_valid_and_utf8(self, sealed: Sealed) -> bool {
         match self.0 {
             Some(present) => present.is_known_valid_and_utf8(sealed),
@@ -115,6 +126,7 @@ impl<P: Part, Q: Part> Part for OrElse<P, Q> {
     }
 
     #[inline(always)]
+    #[track_caller]
     fn room_bound(self, sealed: Sealed) -> usize {
         match self.0 {
             Some(present) => present.room_bound(sealed),
@@ -125,6 +137,7 @@ impl<P: Part, Q: Part> Part for OrElse<P, Q> {
 
 impl<P: Show, Q: Show> Show for OrElse<P, Q> {
     #[inline(always)]
+    #[track_caller]
     fn is_showable(self) -> bool {
         match self.0 {
             Some(present) => present.is_showable(),
@@ -133,6 +146,7 @@ impl<P: Show, Q: Show> Show for OrElse<P, Q> {
     }
 
     #[inline(always)]
+    #[track_caller]
     fn write_pieces<O: fmt::Write>(self, out: &mut O) -> fmt::Result {
         match self.0 {
             Some(present) => present.write_pieces(out),

@@ -24,11 +24,13 @@ impl<P: Part> Part for &P {
     }
 
     #[inline(always)]
+    #[track_caller]
     fn is_known_valid_and_utf8(self, sealed: Sealed) -> bool {
         (*self).is_known_valid_and_utf8(sealed)
     }
 
     #[inline(always)]
+    #[track_caller]
     fn room_bound(self, sealed: Sealed) -> usize {
         (*self).room_bound(sealed)
     }

@@ -28,6 +28,7 @@ impl Part for &str {
     }
 
     #[inline(always)]
+    #[track_caller]
     fn is_known_valid_and_utf8(self, _sealed: Sealed) -> bool {
         true
     }
