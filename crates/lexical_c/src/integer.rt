@@ -1,28 +1,16 @@
 //! The integer types whose numbers are written.
 
-ghost use Rattle.std.specs.Prelude.{◌≡◌, pos, unsigned_abs};
+ghost use Rattle.std.specs.Prelude.{◌≡◌, pos};
 ghost use Rattle.std.proofs.Common.{ap};
 
 use lexical_write_integer::ToLexicalWithOptions;
 
 /// An integer type of 64 bits. Two copies are made of code for these types, in place of nine.
-pub trait WideInteger: ToLexicalWithOptions {
-    /// Returns the absolute value of the number.
-    fn magnitude(self) -> u64
-        ensures { result ≡ unsigned_abs (Self.number self) };
-}
+pub trait WideInteger: ToLexicalWithOptions {}
 
-impl WideInteger for i64 {
-    fn magnitude(self) -> u64 {
-        self.unsigned_abs()
-    }
-}
+impl WideInteger for i64 {}
 
-impl WideInteger for u64 {
-    fn magnitude(self) -> u64 {
-        self
-    }
-}
+impl WideInteger for u64 {}
 
 /// An integer type that C passes, of at most 64 bits. A `size_t` is passed as a `uint64_t`.
 pub trait CInteger: ToLexicalWithOptions {

@@ -5,24 +5,11 @@
 use cojimuran::ToLexicalWithOptions;
 
 /// An integer type of 64 bits. Two copies are made of code for these types, in place of nine.
-pub trait WideInteger: ToLexicalWithOptions {
-    /// Returns the absolute value of the number.
-    fn magnitude(self) -> u64;
-}
+pub trait WideInteger: ToLexicalWithOptions {}
 
-impl WideInteger for i64 {
-    #[inline]
-    fn magnitude(self) -> u64 {
-        self.unsigned_abs()
-    }
-}
+impl WideInteger for i64 {}
 
-impl WideInteger for u64 {
-    #[inline]
-    fn magnitude(self) -> u64 {
-        self
-    }
-}
+impl WideInteger for u64 {}
 
 /// An integer type that C passes, of at most 64 bits. A `size_t` is passed as a `uint64_t`.
 pub trait CInteger: ToLexicalWithOptions {

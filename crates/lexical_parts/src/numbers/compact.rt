@@ -1,5 +1,7 @@
-//! Numbers in any radix, in little code: `{}` and `write_pieces` write `Digits`, `PaddedDigits` and `Formatted` by these
-//! parts. There the radix is mostly known only at run time, and the digit pairs of all radices would take 60 KB or more.
+//! Numbers in any radix, in little code.
+//!
+//! `{}` and `write_pieces` write `Digits`, `PaddedDigits` and `Formatted` by these parts. There the radix is mostly known
+//! only at run time, and the digit pairs of all radices would take 60 KB or more.
 #![tactic(auto, using(crate::proofs::OfTexts::Parts::parts))]
 
 ghost use Rattle.std.specs.Prelude.{◌≤◌, IsTrue, length, unsigned_abs};
@@ -63,7 +65,7 @@ fn write_digits_compactly<T: ToLexical>(
     if radix == 10 {
         number.write_magnitude(&STANDARD, buffer)
     } else {
-        let magnitude = number.absolute_value();
+        let magnitude = number.magnitude();
         digit_count_within_bits(radix, magnitude);
         magnitude.compact(radix, buffer)
     }

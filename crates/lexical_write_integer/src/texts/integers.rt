@@ -12,7 +12,7 @@ impl<T: Decimal + FormattedSize> ToLexical for T {
         self.write_mantissa(format, buffer)
     }
 
-    fn absolute_value(self) -> u64 {
+    fn magnitude(self) -> u64 {
         self.as_u64()
     }
 }
@@ -23,7 +23,7 @@ impl ToLexical for i8 {
         self.unsigned_abs().write_mantissa_signed(format, buffer)
     }
 
-    fn absolute_value(self) -> u64 {
+    fn magnitude(self) -> u64 {
         u64::from(self.unsigned_abs())
     }
 }
@@ -33,7 +33,7 @@ impl ToLexical for i16 {
         self.unsigned_abs().write_mantissa_signed(format, buffer)
     }
 
-    fn absolute_value(self) -> u64 {
+    fn magnitude(self) -> u64 {
         u64::from(self.unsigned_abs())
     }
 }
@@ -43,7 +43,7 @@ impl ToLexical for i32 {
         self.unsigned_abs().write_mantissa_signed(format, buffer)
     }
 
-    fn absolute_value(self) -> u64 {
+    fn magnitude(self) -> u64 {
         u64::from(self.unsigned_abs())
     }
 }
@@ -53,7 +53,7 @@ impl ToLexical for i64 {
         self.unsigned_abs().write_mantissa_signed(format, buffer)
     }
 
-    fn absolute_value(self) -> u64 {
+    fn magnitude(self) -> u64 {
         self.unsigned_abs()
     }
 }
@@ -63,7 +63,7 @@ impl ToLexical for isize {
         self.unsigned_abs().write_mantissa_signed(format, buffer)
     }
 
-    fn absolute_value(self) -> u64 {
+    fn magnitude(self) -> u64 {
         self.unsigned_abs() as u64
     }
 }

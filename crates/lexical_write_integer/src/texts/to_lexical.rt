@@ -60,12 +60,12 @@ pub trait ToLexical: LexicalInteger + FormattedSize {
         ensures digits { WritesDigits format.now.mantissa_radix (unsigned_abs (Self.number self))
             buffer.old buffer.new result };
 
-    /// Returns the absolute value of the number.
+    /// Returns the magnitude of the number, which is its absolute value.
     #[doc(hidden)]
-    fn absolute_value(self) -> u64
+    fn magnitude(self) -> u64
         ensures { result ≡ unsigned_abs (Self.number self) };
 
-    /// Returns the number of digits of the absolute value in the radix, which is from 2 to 36.
+    /// Returns the number of digits of the magnitude in the radix, which is from 2 to 36.
     ///
     /// # Panics
     ///
@@ -75,7 +75,7 @@ pub trait ToLexical: LexicalInteger + FormattedSize {
         requires { IsRadix radix }
         ensures { result ≡ digit_count radix (unsigned_abs (Self.number self)) }
     {
-        self.absolute_value().digit_count(radix)
+        self.magnitude().digit_count(radix)
     }
 
     /// Writes the number in the format to the start of the buffer, and returns the length of its text.
@@ -256,8 +256,9 @@ pub fn sign_len<T: LexicalInteger>(number: T, format: &NumberFormat) -> usize
     usize::from(number.is_negative() || format.required_mantissa_sign())
 }
 
-/// Writes the sign of the number, if it has one in the format, to the first byte of the buffer, which is
-/// not empty, and returns the length of the sign, 0 or 1. If there is no sign, the buffer is unchanged.
+/// Writes the sign of the number to the start of the buffer, and returns the length of the sign, 0 or 1.
+///
+/// If the number has no sign in the format, the buffer is unchanged. Otherwise the buffer must not be empty.
 ///
 /// ```
 /// use lexical_write_integer::{format::STANDARD, write_sign};

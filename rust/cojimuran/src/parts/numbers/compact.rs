@@ -1,7 +1,9 @@
 // Made by `strip` from crates/lexical_parts/src/numbers/compact.rt. Edit that file, not this one.
 
-//! Numbers in any radix, in little code: `{}` and `write_pieces` write `Digits`, `PaddedDigits` and `Formatted` by these
-//! parts. There the radix is mostly known only at run time, and the digit pairs of all radices would take 60 KB or more.
+//! Numbers in any radix, in little code.
+//!
+//! `{}` and `write_pieces` write `Digits`, `PaddedDigits` and `Formatted` by these parts. There the radix is mostly known
+//! only at run time, and the digit pairs of all radices would take 60 KB or more.
 
 use crate::num::limits::is_radix;
 use crate::parts::numbers::padded::MOST_DIGITS;
@@ -51,7 +53,7 @@ fn write_digits_compactly<T: ToLexical>(
     if radix == 10 {
         number.write_magnitude(&STANDARD, buffer)
     } else {
-        let magnitude = number.absolute_value();
+        let magnitude = number.magnitude();
         magnitude.compact(radix, buffer)
     }
 }

@@ -4,9 +4,11 @@
 
 use crate::num::format::NumberFormat;
 
-/// Puts the first `count` bytes of the buffer into the groups of the format, and returns their length with
-/// the separators. The count must not be 0, and the buffer must have room for this length. Every byte after
-/// the text is unchanged. Without groups in the format it returns the count, and writes nothing.
+/// Puts the first `count` bytes of the buffer into the groups of the format, and returns their length with the
+/// separators.
+///
+/// The count must not be 0, and the buffer must have room for this length. Every byte after the text is unchanged.
+/// Without groups in the format it returns the count, and writes nothing.
 ///
 /// The bytes are moved from the last to the first, so no digit is overwritten before it has moved:
 ///

@@ -18,7 +18,7 @@ impl<T: Decimal + FormattedSize> ToLexical for T {
 
     #[inline(always)]
     #[track_caller]
-    fn absolute_value(self) -> u64 {
+    fn magnitude(self) -> u64 {
         self.as_u64()
     }
 }
@@ -33,7 +33,7 @@ impl ToLexical for i8 {
 
     #[inline(always)]
     #[track_caller]
-    fn absolute_value(self) -> u64 {
+    fn magnitude(self) -> u64 {
         u64::from(self.unsigned_abs())
     }
 }
@@ -47,7 +47,7 @@ impl ToLexical for i16 {
 
     #[inline(always)]
     #[track_caller]
-    fn absolute_value(self) -> u64 {
+    fn magnitude(self) -> u64 {
         u64::from(self.unsigned_abs())
     }
 }
@@ -61,7 +61,7 @@ impl ToLexical for i32 {
 
     #[inline(always)]
     #[track_caller]
-    fn absolute_value(self) -> u64 {
+    fn magnitude(self) -> u64 {
         u64::from(self.unsigned_abs())
     }
 }
@@ -75,7 +75,7 @@ impl ToLexical for i64 {
 
     #[inline(always)]
     #[track_caller]
-    fn absolute_value(self) -> u64 {
+    fn magnitude(self) -> u64 {
         self.unsigned_abs()
     }
 }
@@ -89,7 +89,7 @@ impl ToLexical for isize {
 
     #[inline(always)]
     #[track_caller]
-    fn absolute_value(self) -> u64 {
+    fn magnitude(self) -> u64 {
         self.unsigned_abs() as u64
     }
 }

@@ -48,12 +48,12 @@ pub trait ToLexical: LexicalInteger + FormattedSize {
     #[doc(hidden)]
     fn write_magnitude(self, format: &NumberFormat, buffer: &mut [u8]) -> usize;
 
-    /// Returns the absolute value of the number.
+    /// Returns the magnitude of the number, which is its absolute value.
     #[doc(hidden)]
     #[must_use]
-    fn absolute_value(self) -> u64;
+    fn magnitude(self) -> u64;
 
-    /// Returns the number of digits of the absolute value in the radix, which is from 2 to 36.
+    /// Returns the number of digits of the magnitude in the radix, which is from 2 to 36.
     ///
     /// # Panics
     ///
@@ -63,7 +63,7 @@ pub trait ToLexical: LexicalInteger + FormattedSize {
     #[inline(always)]
     #[track_caller]
     fn magnitude_digits(self, radix: u32) -> usize {
-        self.absolute_value().digit_count(radix)
+        self.magnitude().digit_count(radix)
     }
 
     /// Writes the number in the format to the start of the buffer, and returns the length of its text.
@@ -223,8 +223,9 @@ pub fn sign_len<T: LexicalInteger>(number: T, format: &NumberFormat) -> usize {
     usize::from(number.is_negative() || format.required_mantissa_sign())
 }
 
-/// Writes the sign of the number, if it has one in the format, to the first byte of the buffer, which is
-/// not empty, and returns the length of the sign, 0 or 1. If there is no sign, the buffer is unchanged.
+/// Writes the sign of the number to the start of the buffer, and returns the length of the sign, 0 or 1.
+///
+/// If the number has no sign in the format, the buffer is unchanged. Otherwise the buffer must not be empty.
 ///
 /// ```
 /// use cojimuran::{format::STANDARD, write_sign};
