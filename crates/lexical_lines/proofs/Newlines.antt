@@ -64,7 +64,8 @@ split-mod a r m some small =
 abbrev difference : ℕ → ℕ → ℕ
 difference k left = left + (word_limit k - each 1 k)
 
--- a byte before a word, of which `less` is left after the difference
+-- a word with one more byte: what is found in it is what is found in the byte and in the rest, if `less` is the last
+-- byte of the difference, and `more` is the rest of it
 found-split : (k left c more less : ℕ) → left < word_limit k → c < 256 → less < 256
     → difference (suc k) (left * 2 ^ 8 + c) ≡ more * 2 ^ 8 + less
     → found (suc k) (left * 2 ^ 8 + c)

@@ -32,8 +32,10 @@ pub use digit_pairs::{
     DIGIT_TO_BASE34_SQUARED, DIGIT_TO_BASE35_SQUARED, DIGIT_TO_BASE36_SQUARED,
 };
 
-/// Returns the table of a radix from 2 to 36. It has two bytes for each number below the square of
-/// the radix: the bytes at `2 * i` and `2 * i + 1` are the characters of the two digits of `i`.
+/// Returns the table of a radix from 2 to 36.
+///
+/// It has two bytes for each number below the square of the radix: the bytes at `2 * i` and `2 * i + 1` are the
+/// characters of the two digits of `i`.
 ///
 /// # Panics
 ///

@@ -10,7 +10,7 @@ use std::cmp::Ordering;
 
 /// Returns whether the first text is shorter than the second, or has the same length and is less in the
 /// order of bytes.
-pub fn is_earlier_key(a: &[u8], b: &[u8]) -> bool
+pub fn text_comes_before(a: &[u8], b: &[u8]) -> bool
     ensures { IsTrue result ↔ ComesBefore a.now b.now }
 {
     a.len() < b.len() || a.len() == b.len() && a.cmp(&b) == Ordering::Less
@@ -22,5 +22,5 @@ pub fn comes_before(a: u64, b: u64) -> bool
     ensures { IsTrue result ↔ a < b }
 {
     order(a, b, &STANDARD);
-    is_earlier_key(a.to_lexical(&mut [0; 20]), b.to_lexical(&mut [0; 20]))
+    text_comes_before(a.to_lexical(&mut [0; 20]), b.to_lexical(&mut [0; 20]))
 }

@@ -22,7 +22,7 @@ use crate::identifier::{
     sorted_identifier,
 };
 use crate::printed::printed;
-use crate::sorted_keys::{comes_before, is_earlier_key};
+use crate::sorted_keys::{comes_before, text_comes_before};
 use crate::tar_header::{write_first_fields, write_header};
 use crate::time_of_day::write_time;
 use lexical_parts::{Decimal, Part};
@@ -177,8 +177,8 @@ fn keys_in_the_order_of_the_numbers(rt: HostRuntime) {
     check(&rt, comes_before(10, 9), false);
     check(&rt, comes_before(10, 10), false);
     check(&rt, comes_before(99, 18446744073709551615), true);
-    check(&rt, is_earlier_key(b"19", b"20"), true);
-    check(&rt, is_earlier_key(b"20", b"20"), false);
+    check(&rt, text_comes_before(b"19", b"20"), true);
+    check(&rt, text_comes_before(b"20", b"20"), false);
 }
 
 #[test]

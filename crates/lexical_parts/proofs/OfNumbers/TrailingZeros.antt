@@ -16,9 +16,9 @@ pub zeros_more : (digits : List ℕ) (count : ℕ) → 1 ≤ count → count ≤
 zeros_more digits count some within byte ends = grind (arith, drop-cons)
 
 -- a digit 0 at the end is the character `0`
-last_character : (count number : ℕ) (text : List ℕ) → IsPadded 10 (count + 1) number text → number % 10 ≡ 0
+last_is_zero : (count number : ℕ) (text : List ℕ) → IsPadded 10 (count + 1) number text → number % 10 ≡ 0
     → get_or text count 0 ≡ 48
-last_character count number text is none =
+last_is_zero count number text is none =
     let last = (IsPadded-split 10 count 1 number text is).1 in
     let zero : IsPadded 10 1 0 (drop count text) = rw none at last in
     let same : drop count text ≡ 48 ∷ [] = padded_unique 10 1 0 _ _ zero (IsPadded-zeros 10 1 (omega arith)) in
@@ -44,6 +44,6 @@ zeros_left_out kept zeros number text is ends =
       whole = omega (arith, none, div-add-mod' number (10 ^ zeros));
       last = λ some other zero.
           let counted : kept - 1 + 1 ≡ kept = omega arith in
-          let byte = last_character (kept - 1) _ (take kept text) (rw counted both.0) zero in
+          let byte = last_is_zero (kept - 1) _ (take kept text) (rw counted both.0) zero in
           other (sym (get_or-take kept text (kept - 1) 0 (omega arith)) ∙ byte);
     }

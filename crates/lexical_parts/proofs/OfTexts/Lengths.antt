@@ -259,7 +259,7 @@ each_more IsOf xs x count more each last = record {
       omega (arith, both.4, each.each both.0 both.2, last.each both.1 both.3);
 }
 
--- the texts of elements that each have one length
+-- the texts of elements that all have the same length
 pub each_same : {A : Type 0} (IsOf : A → List ℕ → Type 0) (width : ℕ) → ((x : A) → HasLength (IsOf x) width)
     → (xs : List A)
     → HasLength (AreEach IsOf xs) (length xs * width)

@@ -11,10 +11,12 @@ use crate::part::Part;
 use crate::sealed::Sealed;
 use std::fmt;
 
-/// A part that is aligned to the left of a column: a byte, often a space, is added after its text, up to
-/// the width. `Left(Decimal(12), 4, b'.')` writes `12..`. Nothing is added to a text longer than the
-/// width, which counts bytes and not characters. Its room is the width or that of the part, whichever is larger.
-/// In a `&str`, a `String` or a format string that byte must be below 128.
+/// A part, aligned to the left in a column.
+///
+/// A byte, often a space, is added after the text of the part, up to the width: `Left(Decimal(12), 4, b'.')` writes
+/// `12..`. Nothing is added to a text that is longer than the width, which counts bytes and not characters. The room is
+/// the width or that of the part, whichever is larger. In a `&str`, a `String` or a format string that byte must be
+/// below 128.
 ///
 /// ```
 /// use lexical_parts::{Decimal, Left, Part};
@@ -22,7 +24,14 @@ use std::fmt;
 /// assert_eq!(rt; Left(Decimal(12), 4, b'.').to_str(&mut [0; 64]), "12..");
 /// ```
 #[derive(Clone, Copy, Debug, Drop)]
-pub struct Left<P>(pub P, pub usize, pub u8);
+pub struct Left<P>(
+    /// The part in the column.
+    pub P,
+    /// The width, in bytes.
+    pub usize,
+    /// The byte that is added after the text.
+    pub u8,
+);
 
 impl<P: Part> Part for Left<P> {
     // `Right` and `Center` have the same members, because `rt ci` refuses an `impl` that a macro of ours writes.
@@ -73,10 +82,12 @@ impl<P: Show> Show for Left<P> {
     }
 }
 
-/// A part that is aligned to the right of a column: a byte, often a space, is added before its text, up
-/// to the width. `Right(Decimal(42), 4, b'.')` writes `..42`. Nothing is added to a text longer than the
-/// width, which counts bytes and not characters. Its room is the width or that of the part, whichever is larger.
-/// In a `&str`, a `String` or a format string that byte must be below 128.
+/// A part, aligned to the right in a column.
+///
+/// A byte, often a space, is added before the text of the part, up to the width: `Right(Decimal(42), 4, b'.')` writes
+/// `..42`. Nothing is added to a text that is longer than the width, which counts bytes and not characters. The room is
+/// the width or that of the part, whichever is larger. In a `&str`, a `String` or a format string that byte must be
+/// below 128.
 ///
 /// ```
 /// use lexical_parts::{Decimal, Part, Right};
@@ -84,7 +95,14 @@ impl<P: Show> Show for Left<P> {
 /// assert_eq!(rt; Right(Decimal(42), 4, b'.').to_str(&mut [0; 64]), "..42");
 /// ```
 #[derive(Clone, Copy, Debug, Drop)]
-pub struct Right<P>(pub P, pub usize, pub u8);
+pub struct Right<P>(
+    /// The part in the column.
+    pub P,
+    /// The width, in bytes.
+    pub usize,
+    /// The byte that is added before the text.
+    pub u8,
+);
 
 impl<P: Part> Part for Right<P> {
     ghost is_text = { λ part. IsAtRight part.1 part.2 (P.is_text part.0) };
@@ -136,11 +154,12 @@ impl<P: Show> Show for Right<P> {
     }
 }
 
-/// A part in the centre of a column: a byte, often a space, is added before and after its text, up to
-/// the width. If their number is odd, the last one is after the text, as with `{:^6}`:
-/// `Center(Decimal(-12), 6, b'*')` writes `*-12**`. Nothing is added to a text longer than the width,
-/// which counts bytes and not characters. Its room is the width or that of the part, whichever is larger.
-/// In a `&str`, a `String` or a format string that byte must be below 128.
+/// A part in the centre of a column.
+///
+/// A byte, often a space, is added before and after the text of the part, up to the width. If an odd number of bytes is
+/// added, the last one is after the text, as with `{:^6}`: `Center(Decimal(-12), 6, b'*')` writes `*-12**`. Nothing is
+/// added to a text that is longer than the width, which counts bytes and not characters. The room is the width or that
+/// of the part, whichever is larger. In a `&str`, a `String` or a format string that byte must be below 128.
 ///
 /// ```
 /// use lexical_parts::{Center, Decimal, Part};
@@ -148,7 +167,14 @@ impl<P: Show> Show for Right<P> {
 /// assert_eq!(rt; Center(Decimal(-12), 6, b'*').to_str(&mut [0; 64]), "*-12**");
 /// ```
 #[derive(Clone, Copy, Debug, Drop)]
-pub struct Center<P>(pub P, pub usize, pub u8);
+pub struct Center<P>(
+    /// The part in the column.
+    pub P,
+    /// The width, in bytes.
+    pub usize,
+    /// The byte that is added before and after the text.
+    pub u8,
+);
 
 impl<P: Part> Part for Center<P> {
     ghost is_text = { λ part. IsCentered part.1 part.2 (P.is_text part.0) };

@@ -46,9 +46,10 @@ pub(crate) fn write_next<P: Part>(
     }
 }
 
-/// The parts of a slice, with the separator between adjacent parts: `Joined(&[-1, 20], ", ")` writes
-/// `-1, 20`. An array of other values becomes parts by `map`: `Joined(&[10u8, 2].map(Hex), ":")` writes
-/// `A:2`. Its room is the sum of the rooms of the parts and of the lengths of the separators.
+/// The parts of a slice, with a separator between adjacent parts: `Joined(&[-1, 20], ", ")` writes `-1, 20`.
+///
+/// An array of other values becomes parts by `map`: `Joined(&[10u8, 2].map(Hex), ":")` writes `A:2`. The room is the
+/// sum of the rooms of the parts and of the lengths of the separators.
 ///
 /// ```
 /// use lexical_parts::{Hex, Joined, Part};
@@ -57,7 +58,12 @@ pub(crate) fn write_next<P: Part>(
 /// assert_eq!(rt; Joined(&[10u8, 2].map(Hex), ":").to_str(&mut [0; 64]), "A:2");
 /// ```
 #[derive(Clone, Copy, Debug, Drop)]
-pub struct Joined<'a, P>(pub &'a [P], pub &'a str);
+pub struct Joined<'a, P>(
+    /// The parts.
+    pub &'a [P],
+    /// The separator.
+    pub &'a str,
+);
 
 impl<P: Part> Part for Joined<'_, P> {
     ghost is_text = { λ part. AreJoined P.is_text part.1.now part.0.now };

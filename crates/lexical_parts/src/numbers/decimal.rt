@@ -15,9 +15,10 @@ use lexical_write_integer::ToLexical;
 use lexical_write_integer::format::STANDARD;
 use lexical_write_integer::laws::size_suffices;
 
-/// A number in decimal, with a `-` if it is negative: `Decimal(-5)` writes `-5`, as the part `-5` does. It
-/// is for generic code, in which the number has a type parameter. Its room is that of the type, such as 20 bytes for 64
-/// bits.
+/// A number in decimal, with a `-` if it is negative: `Decimal(-5)` writes `-5`, as the part `-5` does.
+///
+/// It is for generic code, in which the number has a type parameter. Its room is that of the type, such as 20 bytes for
+/// 64 bits.
 ///
 /// ```
 /// use lexical_parts::{Decimal, Part};

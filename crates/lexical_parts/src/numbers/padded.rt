@@ -35,15 +35,15 @@ fn has_few_bits(number: u64, radix: u32, width: usize) -> bool
     bits >= 64 || number >> bits == 0
 }
 
-/// The digits of an unsigned number in a radix from 2 to 36, with leading zeros up to the width:
-/// `PaddedDigits(16, 1u8, 2)` writes `01`.
+/// The digits of an unsigned number in a radix from 2 to 36, with leading zeros up to the width: `PaddedDigits(16, 1u8,
+/// 2)` writes `01`.
 ///
-/// The number must be below `radix.pow(width)`, and a literal needs a type. Its room is the width. `room` and
+/// The number must be below `radix.pow(width)`, and a literal needs a type. The room is the width. `room` and
 /// `text_len` do not check that the number fits.
 ///
-/// If the radix is a constant where you call `to_str`, your program has only the code of that radix. If it is known only
-/// at run time, your program has [the code of every radix](crate::costs#a-radix-that-is-known-only-at-run-time), which
-/// is 65 KB or more. `write_pieces` and `{}` take a tenth of that, because they divide once for each digit.
+/// If the radix is a constant where you call `to_str`, your program has only the code of that radix. If it is known
+/// only at run time, your program has [the code of every radix](crate::costs#a-radix-that-is-known-only-at-run-time),
+/// which is 65 KB or more. `write_pieces` and `{}` take a tenth of that, because they divide once for each digit.
 ///
 /// ```
 /// use lexical_parts::{PaddedDigits, Part};
@@ -51,7 +51,14 @@ fn has_few_bits(number: u64, radix: u32, width: usize) -> bool
 /// assert_eq!(rt; PaddedDigits(16, 1u8, 2).to_str(&mut [0; 64]), "01");
 /// ```
 #[derive(Clone, Copy, Debug, Drop)]
-pub struct PaddedDigits<T>(pub u32, pub T, pub usize);
+pub struct PaddedDigits<T>(
+    /// The radix.
+    pub u32,
+    /// The number.
+    pub T,
+    /// The width, in digits.
+    pub usize,
+);
 
 impl<T: DigitCount + Radix> Part for PaddedDigits<T> {
     ghost is_text = { λ part. IsPadded part.0 part.2 (T.magnitude part.1) };
@@ -136,9 +143,9 @@ impl<T: DigitCount + Radix> PaddedDigits<T> {
 
 /// An unsigned number in decimal, with leading zeros up to the width: `Padded(3u8, 2)` writes `03`.
 ///
-/// The number must be below `10.pow(width)`, and a literal needs a type. Its room is the width. `room` and `text_len`
-/// do not check that the number fits. [`ZeroPadded`](super::super::ZeroPadded) writes every number:
-/// `ZeroPadded(123u8, 2)` writes `123`.
+/// The number must be below `10.pow(width)`, and a literal needs a type. The room is the width. `room` and `text_len`
+/// do not check that the number fits. [`ZeroPadded`](super::super::ZeroPadded) writes every number: `ZeroPadded(123u8,
+/// 2)` writes `123`.
 ///
 /// ```
 /// use lexical_parts::{Padded, Part, ZeroPadded};
@@ -147,7 +154,12 @@ impl<T: DigitCount + Radix> PaddedDigits<T> {
 /// assert_eq!(rt; ZeroPadded(123u8, 2).to_str(&mut [0; 64]), "123");
 /// ```
 #[derive(Clone, Copy, Debug, Drop)]
-pub struct Padded<T>(pub T, pub usize);
+pub struct Padded<T>(
+    /// The number.
+    pub T,
+    /// The width, in digits.
+    pub usize,
+);
 
 impl<T: DigitCount + Radix> Part for Padded<T> {
     ghost is_text = { λ part. IsPadded 10 part.1 (T.magnitude part.0) };

@@ -15,8 +15,10 @@ use lexical_write_integer::ToLexical;
 use lexical_write_integer::format::STANDARD;
 use lexical_write_integer::laws::size_suffices;
 
-/// A number in decimal that always has a sign, `+` if it is not negative: `Plus(5u8)` writes `+5`, and
-/// `Plus(-5)` writes `-5`. `ZeroPadded(Plus(42), 8)` writes `+0000042`, as `{:+08}` does. Its room is at most 21 bytes.
+/// A number in decimal that always has a sign, `+` if it is not negative: `Plus(5u8)` writes `+5`, and `Plus(-5)`
+/// writes `-5`.
+///
+/// `ZeroPadded(Plus(42), 8)` writes `+0000042`, as `{:+08}` does. Its room is at most 21 bytes.
 ///
 /// ```
 /// use lexical_parts::{Part, Plus, ZeroPadded};

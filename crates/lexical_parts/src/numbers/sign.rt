@@ -13,7 +13,8 @@ use lexical_num::num::LexicalInteger;
 use lexical_write_integer::buffer::copy_to_front;
 
 /// The sign of a number: `-` if it is below 0, and otherwise nothing, or a `+` if one is required.
-/// `Sign(-5, false)` writes `-`, as `Sign(-5, true)` does, and `Sign(5, true)` writes `+`. Its room is 1.
+///
+/// `Sign(-5, false)` writes `-`, as `Sign(-5, true)` does, and `Sign(5, true)` writes `+`. The room is 1.
 ///
 /// ```
 /// use lexical_parts::{Part, Sign};
@@ -22,7 +23,12 @@ use lexical_write_integer::buffer::copy_to_front;
 /// assert_eq!(rt; Sign(5, true).to_str(&mut [0; 64]), "+");
 /// ```
 #[derive(Clone, Copy, Debug, Drop)]
-pub struct Sign<T>(pub T, pub bool);
+pub struct Sign<T>(
+    /// The number.
+    pub T,
+    /// Whether a number that is not below 0 gets a `+`.
+    pub bool,
+);
 
 impl<T: LexicalInteger> Part for Sign<T> {
     ghost is_text = { λ part. IsExactly (sign_of (T.number part.0) part.1) };

@@ -13,8 +13,9 @@ use lexical_write_integer::buffer::copy_to_front;
 use std::fmt;
 use std::str::from_utf8;
 
-/// A part whose text is the bytes of a slice: `Bytes(b"ab")` writes `ab`. Its room is the length of the slice. In a
-/// `&str`, a `String` or a format string the bytes must be UTF-8.
+/// A part whose text is the bytes of a slice: `Bytes(b"ab")` writes `ab`.
+///
+/// Its room is the length of the slice. In a `&str`, a `String` or a format string the bytes must be UTF-8.
 ///
 /// ```
 /// use lexical_parts::{Bytes, Part};

@@ -14,6 +14,7 @@ use crate::sealed::Sealed;
 use std::fmt;
 
 /// A part in lowercase: its text with `A` to `Z` as `a` to `z`, and every other byte unchanged.
+///
 /// `Lower(PaddedDigits(16, 255u32, 4))` writes `00ff`. Its room is that of the part.
 ///
 /// In a format string it is a text, and not a number: `{:04}` of `Lower(Hex(255u32))` writes `ff` and two spaces,

@@ -1,4 +1,4 @@
-//! The assertions of all tests. Each failure shows the row of the test, which has its inputs.
+//! The assertions of the tests of lines. Each failure shows the row of the test, which has its inputs.
 
 ghost use Rattle.std.specs.Prelude.{◌≡◌, ◌≤◌, IfOk, Ok};
 

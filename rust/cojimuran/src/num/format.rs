@@ -30,9 +30,10 @@ impl Parts {
     }
 }
 
-/// A valid format. Both radices are from 2 to 36. If the digits are grouped, a group has from 1 to 64
-/// digits, and the separator is a printable ASCII character other than a letter, a digit or a sign.
+/// How a number is written: in which radix, with which groups of digits, and whether it needs a `+`.
 ///
+/// A format is always valid: both radices are from 2 to 36. If the digits are grouped, a group has from 1 to 64 digits,
+/// and the separator is a printable ASCII character other than a letter, a digit or a sign.
 /// [`NumberFormatBuilder`](super::NumberFormatBuilder) builds a format.
 ///
 /// ```

@@ -106,7 +106,7 @@ impl NumberFormatBuilder {
         self
     }
 
-    /// Returns the format with these parts. The builder is unchanged.
+    /// Returns the format with these fields. The builder is unchanged.
     ///
     /// # Errors
     ///
@@ -131,17 +131,17 @@ impl NumberFormatBuilder {
         Ok(self.build_strict())
     }
 
-    /// Returns the format with these parts, which are valid. Both radices are from 2 to 36. If groups
+    /// Returns the format with these fields, which are valid. Both radices are from 2 to 36. If groups
     /// were set, their size is from 1 to 64, and the separator is from 32 to 126 and is not a letter,
     /// a digit, `+` or `-`.
     ///
     /// # Panics
     ///
-    /// If a part is invalid: then `build` returns an error.
+    /// If a field is invalid, that is, if `build` returns an error.
     #[must_use]
     #[inline]
     pub const fn build_strict(&self) -> NumberFormat {
-        // In Rust one of these says which part is invalid.
+        // In Rust one of these says which field is invalid.
         assert!(
             is_radix(self.parts.mantissa_radix as u64),
             "the mantissa radix is not from 2 to 36"

@@ -127,8 +127,8 @@ pub trait Part: Copy {
     /// bytes or more.
     ///
     /// `std::str::from_utf8` reads the text once to check it if there is a `Displayed`, a reference to a `String` or a
-    /// part of your own in it, or if a byte or a fill in it is 128 or above. A `Bytes` is checked alone. Other texts need
-    /// no check.
+    /// part of your own in it, or if a byte or a fill in it is 128 or above. A `Bytes` is checked alone. Other texts
+    /// need no check.
     ///
     /// # Panics
     ///
@@ -146,8 +146,8 @@ pub trait Part: Copy {
         let text = self.to_text(buffer);
         if is_known_utf8 {
             debug_assert!(from_utf8(text).is_ok());
-            // SAFETY: the part is valid, it is UTF-8, and the buffer has its room. So `to_text` ensures `utf8`: the text
-            // is UTF-8.
+            // SAFETY: the part is valid, it is UTF-8, and the buffer has its room. So `to_text` ensures `utf8`: the
+            // text is UTF-8.
             unsafe { from_utf8_unchecked(text) }
         } else {
             let checked = from_utf8(text);

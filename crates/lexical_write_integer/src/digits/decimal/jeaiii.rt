@@ -177,7 +177,8 @@ pub fn from_i64(n: u64, buffer: &mut [u8]) -> usize
     from_i64_counted(n, buffer, &mut Turns::new())
 }
 
-/// Writes the digits as `from_u8` does, under the same condition.
+/// Writes the digits of a number to the start of the buffer, and returns how many there are. The buffer has room for 3
+/// bytes, and `turns` gets the notes.
 pub fn from_u8_counted(n: u8, buffer: &mut [u8], turns: &mut Turns) -> usize
     requires { 3 ≤ length buffer.old }
     ensures digits { WritesDigits 10 n buffer.old buffer.new result }
@@ -190,7 +191,8 @@ pub fn from_u8_counted(n: u8, buffer: &mut [u8], turns: &mut Turns) -> usize
     shared_write_32(u32::from(n), &mut buffer[..3], turns)
 }
 
-/// Writes the digits as `from_u16` does, under the same condition.
+/// Writes the digits of a number to the start of the buffer, and returns how many there are. The buffer has room for 5
+/// bytes, and `turns` gets the notes.
 pub fn from_u16_counted(n: u16, buffer: &mut [u8], turns: &mut Turns) -> usize
     requires { 5 ≤ length buffer.old }
     ensures digits { WritesDigits 10 n buffer.old buffer.new result }
@@ -202,7 +204,8 @@ pub fn from_u16_counted(n: u16, buffer: &mut [u8], turns: &mut Turns) -> usize
     shared_write_32(u32::from(n), &mut buffer[..5], turns)
 }
 
-/// Writes the digits as `from_u32` does, under the same condition.
+/// Writes the digits of a number to the start of the buffer, and returns how many there are. The buffer has room for 10
+/// bytes, and `turns` gets the notes.
 pub fn from_u32_counted(n: u32, buffer: &mut [u8], turns: &mut Turns) -> usize
     requires { 10 ≤ length buffer.old }
     ensures digits { WritesDigits 10 n buffer.old buffer.new result }
@@ -214,7 +217,8 @@ pub fn from_u32_counted(n: u32, buffer: &mut [u8], turns: &mut Turns) -> usize
     shared_write_32(n, &mut buffer[..10], turns)
 }
 
-/// Writes the digits as `from_u64` does, under the same condition.
+/// Writes the digits of a number to the start of the buffer, and returns how many there are. The buffer has room for 20
+/// bytes, and `turns` gets the notes.
 pub fn from_u64_counted(n: u64, buffer: &mut [u8], turns: &mut Turns) -> usize
     requires { 20 ≤ length buffer.old }
     ensures digits { WritesDigits 10 n buffer.old buffer.new result }
@@ -226,7 +230,8 @@ pub fn from_u64_counted(n: u64, buffer: &mut [u8], turns: &mut Turns) -> usize
     shared_write_64(n, &mut buffer[..20], turns)
 }
 
-/// Writes the digits as `from_i64` does, under the same conditions.
+/// Writes the digits of a number to the start of the buffer, and returns how many there are. The number is below 10^19,
+/// the buffer has room for 19 bytes, and `turns` gets the notes.
 pub fn from_i64_counted(n: u64, buffer: &mut [u8], turns: &mut Turns) -> usize
     requires number { n < 10 ^ 19 }
     requires room { 19 ≤ length buffer.old }

@@ -14,9 +14,11 @@ use crate::parts::texts::option::OrElse;
 use crate::write_integer::ToLexical;
 use core::fmt;
 
-/// A tuple of parts, or another part, in a format string. A width, a fill and a precision work as for a `&str`, also if
-/// the part is a number: `{:3}` of `Shown(5u8)` writes `5` and two spaces, and `{:03}` does the same. For zeros write
-/// the number without `Shown`, such as `{:03}` of `Hex(5u8)`.
+/// A tuple of parts, or another part, in a format string.
+///
+/// A width, a fill and a precision work as for a `&str`, also if the part is a number: `{:3}` of `Shown(5u8)` writes
+/// `5` and two spaces, and `{:03}` does the same. For zeros write the number without `Shown`, such as `{:03}` of
+/// `Hex(5u8)`.
 ///
 /// # Errors
 ///

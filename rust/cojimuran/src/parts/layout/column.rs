@@ -9,10 +9,12 @@ use crate::parts::part::Part;
 use crate::parts::sealed::Sealed;
 use core::fmt;
 
-/// A part that is aligned to the left of a column: a byte, often a space, is added after its text, up to
-/// the width. `Left(Decimal(12), 4, b'.')` writes `12..`. Nothing is added to a text longer than the
-/// width, which counts bytes and not characters. Its room is the width or that of the part, whichever is larger.
-/// In a `&str`, a `String` or a format string that byte must be below 128.
+/// A part, aligned to the left in a column.
+///
+/// A byte, often a space, is added after the text of the part, up to the width: `Left(Decimal(12), 4, b'.')` writes
+/// `12..`. Nothing is added to a text that is longer than the width, which counts bytes and not characters. The room is
+/// the width or that of the part, whichever is larger. In a `&str`, a `String` or a format string that byte must be
+/// below 128.
 ///
 /// ```
 /// use cojimuran::{Decimal, Left, Part};
@@ -20,7 +22,14 @@ use core::fmt;
 /// assert_eq!(Left(Decimal(12), 4, b'.').to_str(&mut [0; 64]), "12..");
 /// ```
 #[derive(Clone, Copy, PartialEq, Eq, Hash, Debug)]
-pub struct Left<P>(pub P, pub usize, pub u8);
+pub struct Left<P>(
+    /// The part in the column.
+    pub P,
+    /// The width, in bytes.
+    pub usize,
+    /// The byte that is added after the text.
+    pub u8,
+);
 
 impl<P: Part> Part for Left<P> {
     #[inline(always)]
@@ -71,10 +80,12 @@ impl<P: Show> Show for Left<P> {
     }
 }
 
-/// A part that is aligned to the right of a column: a byte, often a space, is added before its text, up
-/// to the width. `Right(Decimal(42), 4, b'.')` writes `..42`. Nothing is added to a text longer than the
-/// width, which counts bytes and not characters. Its room is the width or that of the part, whichever is larger.
-/// In a `&str`, a `String` or a format string that byte must be below 128.
+/// A part, aligned to the right in a column.
+///
+/// A byte, often a space, is added before the text of the part, up to the width: `Right(Decimal(42), 4, b'.')` writes
+/// `..42`. Nothing is added to a text that is longer than the width, which counts bytes and not characters. The room is
+/// the width or that of the part, whichever is larger. In a `&str`, a `String` or a format string that byte must be
+/// below 128.
 ///
 /// ```
 /// use cojimuran::{Decimal, Part, Right};
@@ -82,7 +93,14 @@ impl<P: Show> Show for Left<P> {
 /// assert_eq!(Right(Decimal(42), 4, b'.').to_str(&mut [0; 64]), "..42");
 /// ```
 #[derive(Clone, Copy, PartialEq, Eq, Hash, Debug)]
-pub struct Right<P>(pub P, pub usize, pub u8);
+pub struct Right<P>(
+    /// The part in the column.
+    pub P,
+    /// The width, in bytes.
+    pub usize,
+    /// The byte that is added before the text.
+    pub u8,
+);
 
 impl<P: Part> Part for Right<P> {
     #[inline(always)]
@@ -135,11 +153,12 @@ impl<P: Show> Show for Right<P> {
     }
 }
 
-/// A part in the centre of a column: a byte, often a space, is added before and after its text, up to
-/// the width. If their number is odd, the last one is after the text, as with `{:^6}`:
-/// `Center(Decimal(-12), 6, b'*')` writes `*-12**`. Nothing is added to a text longer than the width,
-/// which counts bytes and not characters. Its room is the width or that of the part, whichever is larger.
-/// In a `&str`, a `String` or a format string that byte must be below 128.
+/// A part in the centre of a column.
+///
+/// A byte, often a space, is added before and after the text of the part, up to the width. If an odd number of bytes is
+/// added, the last one is after the text, as with `{:^6}`: `Center(Decimal(-12), 6, b'*')` writes `*-12**`. Nothing is
+/// added to a text that is longer than the width, which counts bytes and not characters. The room is the width or that
+/// of the part, whichever is larger. In a `&str`, a `String` or a format string that byte must be below 128.
 ///
 /// ```
 /// use cojimuran::{Center, Decimal, Part};
@@ -147,7 +166,14 @@ impl<P: Show> Show for Right<P> {
 /// assert_eq!(Center(Decimal(-12), 6, b'*').to_str(&mut [0; 64]), "*-12**");
 /// ```
 #[derive(Clone, Copy, PartialEq, Eq, Hash, Debug)]
-pub struct Center<P>(pub P, pub usize, pub u8);
+pub struct Center<P>(
+    /// The part in the column.
+    pub P,
+    /// The width, in bytes.
+    pub usize,
+    /// The byte that is added before and after the text.
+    pub u8,
+);
 
 impl<P: Part> Part for Center<P> {
     #[inline(always)]

@@ -4,10 +4,11 @@
 
 use crate::parts::part::Part;
 
-/// Writes a part whose text has exactly `count` bytes to `buffer[index..index + count]`. No other byte of the buffer
-/// changes, unless the call panics. The part must be valid, its room must be at most `count`, and the buffer must have
-/// these bytes. So use it for parts of a constant width, such as `Padded`, `PaddedDigits`, `FullHex`, a column or a
-/// `&str`.
+/// Writes a part whose text has exactly `count` bytes to `buffer[index..index + count]`.
+///
+/// No other byte of the buffer changes, unless the call panics. The part must be valid, its room must be at most
+/// `count`, and the buffer must have these bytes. So use it for parts of a constant width, such as `Padded`,
+/// `PaddedDigits`, `FullHex`, a column or a `&str`.
 ///
 /// ```
 /// use cojimuran::{PaddedDigits, write_field};

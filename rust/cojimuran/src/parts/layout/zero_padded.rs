@@ -18,9 +18,10 @@ fn length_of_sign(text: &[u8]) -> usize {
     }
 }
 
-/// A part with zeros after its sign, up to the width: `ZeroPadded(Decimal(-42), 6)` writes `-00042`, as
-/// `{:06}` does. A text longer than the width, which counts bytes, gets no zeros. Its room is the width or that of the
-/// part, whichever is larger. [`Padded`](super::super::Padded) has a width that the number must fit.
+/// A part with zeros after its sign, up to the width: `ZeroPadded(Decimal(-42), 6)` writes `-00042`, as `{:06}` does.
+///
+/// A text that is longer than the width gets no zeros. The room is the width or that of the part, whichever is larger.
+/// [`Padded`](super::super::Padded) has a width that the number must fit.
 ///
 /// ```
 /// use cojimuran::{Decimal, Part, ZeroPadded};
@@ -28,7 +29,12 @@ fn length_of_sign(text: &[u8]) -> usize {
 /// assert_eq!(ZeroPadded(Decimal(-42), 6).to_str(&mut [0; 64]), "-00042");
 /// ```
 #[derive(Clone, Copy, PartialEq, Eq, Hash, Debug)]
-pub struct ZeroPadded<P>(pub P, pub usize);
+pub struct ZeroPadded<P>(
+    /// The part, such as a number.
+    pub P,
+    /// The width, in bytes.
+    pub usize,
+);
 
 impl<P: Part> Part for ZeroPadded<P> {
     #[inline(always)]

@@ -12,15 +12,15 @@ use crate::write_integer::digit_count::{DigitCount, most_digits};
 use crate::write_integer::radix::Radix;
 use core::fmt;
 
-/// The digits of an unsigned number in a radix from 2 to 36: `Digits(16, 255u32)` writes `FF`. The digits above 9 are
-/// `A` to `Z`; `Lower(Digits(16, 255u32))` writes `ff`. With another radix the part is not valid.
+/// The digits of an unsigned number in a radix from 2 to 36: `Digits(16, 255u32)` writes `FF`.
 ///
-/// The radix comes first, and the number is unsigned. A literal needs a type, because an `i32` is signed:
-/// `Digits(36, 1000u64)`. A signed number in a radix is written by `Formatted`. The room is the number of digits.
+/// The digits above 9 are `A` to `Z`; `Lower(Digits(16, 255u32))` writes `ff`. With another radix the part is not
+/// valid. A literal needs a type, because an `i32` is signed: `Digits(36, 1000u64)`. A signed number in a radix is
+/// written by `Formatted`. The room is the number of digits.
 ///
-/// If the radix is a constant where you call `to_str`, your program has only the code of that radix. If it is known only
-/// at run time, your program has [the code of every radix](crate::costs#a-radix-that-is-known-only-at-run-time), which
-/// is 65 KB or more. `write_pieces` and `{}` take a tenth of that, because they divide once for each digit.
+/// If the radix is a constant where you call `to_str`, your program has only the code of that radix. If it is known
+/// only at run time, your program has [the code of every radix](crate::costs#a-radix-that-is-known-only-at-run-time),
+/// which is 65 KB or more. `write_pieces` and `{}` take a tenth of that, because they divide once for each digit.
 ///
 /// ```
 /// use cojimuran::{Digits, Lower, Part};
@@ -29,7 +29,12 @@ use core::fmt;
 /// assert_eq!(Lower(Digits(16, 255u32)).to_str(&mut [0; 64]), "ff");
 /// ```
 #[derive(Clone, Copy, PartialEq, Eq, Hash, Debug)]
-pub struct Digits<T>(pub u32, pub T);
+pub struct Digits<T>(
+    /// The radix.
+    pub u32,
+    /// The number.
+    pub T,
+);
 
 impl<T: Radix + DigitCount> Part for Digits<T> {
     #[inline(always)]

@@ -59,9 +59,10 @@ fn write_grouped_units<T: ToLexical>(
     group_digits(whole, format, buffer) + 1 + decimals
 }
 
-/// An integer with a decimal point before its last `decimals` digits, such as an amount in cents: `Fixed(-5i64, 2)`
-/// writes `-0.05`, and `Fixed(1234u32, 3)` writes `1.234`. At least one digit precedes the point, and `decimals` digits
-/// follow it; a number without decimals has no point. There are at most 19 decimals. Its room is at most 22 bytes.
+/// An integer with a decimal point, such as an amount in cents: `Fixed(-5i64, 2)` writes `-0.05`.
+///
+/// At least one digit precedes the point, and as many digits follow it as there are decimals, which are at most 19:
+/// `Fixed(1234u32, 3)` writes `1.234`. A number without decimals has no point. The room is at most 22 bytes.
 ///
 /// ```
 /// use cojimuran::{Fixed, Part};
@@ -70,7 +71,12 @@ fn write_grouped_units<T: ToLexical>(
 /// assert_eq!(Fixed(1234u32, 3).to_str(&mut [0; 64]), "1.234");
 /// ```
 #[derive(Clone, Copy, PartialEq, Eq, Hash, Debug)]
-pub struct Fixed<T>(pub T, pub usize);
+pub struct Fixed<T>(
+    /// The number without its point: 1995 for `19.95`.
+    pub T,
+    /// The number of decimals, at most 19.
+    pub usize,
+);
 
 impl<T: ToLexical> Part for Fixed<T> {
     #[inline(always)]
@@ -106,8 +112,10 @@ impl<T: ToLexical> Show for Fixed<T> {
     }
 }
 
-/// A number as [`Fixed`] writes it, with its whole part in the groups of the format, whose radix and sign are ignored:
-/// in groups of three with `,`, `GroupedFixed(-123456, 2, &format)` writes `-1,234.56`. Its room is at most 39 bytes.
+/// A number as [`Fixed`] writes it, with its whole part in the groups of a format.
+///
+/// The radix and the sign of the format are ignored. In groups of three with `,`, `GroupedFixed(-123456, 2, &format)`
+/// writes `-1,234.56`. The room is at most 39 bytes.
 ///
 /// ```
 /// use cojimuran::{GroupedFixed, Part};
@@ -116,7 +124,14 @@ impl<T: ToLexical> Show for Fixed<T> {
 /// assert_eq!(GroupedFixed(-123456, 2, &format).to_str(&mut [0; 64]), "-1,234.56");
 /// ```
 #[derive(Clone, Copy, PartialEq, Eq, Hash, Debug)]
-pub struct GroupedFixed<'a, T>(pub T, pub usize, pub &'a NumberFormat);
+pub struct GroupedFixed<'a, T>(
+    /// The number without its point: 1995 for `19.95`.
+    pub T,
+    /// The number of decimals, at most 19.
+    pub usize,
+    /// The format.
+    pub &'a NumberFormat,
+);
 
 impl<T: ToLexical> Part for GroupedFixed<'_, T> {
     #[inline(always)]

@@ -22,13 +22,15 @@ fn largest_magnitude<T: ToLexical>() -> u64 {
     }
 }
 
-/// A number in a format, with its sign and its groups: in a format with groups of three digits and the separator `,`,
-/// `Formatted(1234567, &format)` writes `1,234,567`. Its room is the length of the longest text of the type in the
-/// format: 26 bytes for 64 bits in decimal and groups of three, and at most 128 bytes for every type and format.
+/// A number in a format, with its sign and its groups of digits.
 ///
-/// If the format is a constant where you call `to_str`, your program has only the code of its radix. If it is known only
-/// at run time, your program has [the code of every radix](crate::costs#a-radix-that-is-known-only-at-run-time), which
-/// is 65 KB or more. `write_pieces` and `{}` take a tenth of that, because they divide once for each digit.
+/// In a format with groups of three digits and the separator `,`, `Formatted(1234567, &format)` writes `1,234,567`. The
+/// room is the length of the longest text of the type in the format: 26 bytes for 64 bits in decimal and groups of
+/// three, and at most 128 bytes for every type and format.
+///
+/// If the format is a constant where you call `to_str`, your program has only the code of its radix. If it is known
+/// only at run time, your program has [the code of every radix](crate::costs#a-radix-that-is-known-only-at-run-time),
+/// which is 65 KB or more. `write_pieces` and `{}` take a tenth of that, because they divide once for each digit.
 ///
 /// ```
 /// use cojimuran::{Formatted, Part};
@@ -37,7 +39,12 @@ fn largest_magnitude<T: ToLexical>() -> u64 {
 /// assert_eq!(Formatted(1234567, &format).to_str(&mut [0; 64]), "1,234,567");
 /// ```
 #[derive(Clone, Copy, PartialEq, Eq, Hash, Debug)]
-pub struct Formatted<'a, T>(pub T, pub &'a NumberFormat);
+pub struct Formatted<'a, T>(
+    /// The number.
+    pub T,
+    /// The format.
+    pub &'a NumberFormat,
+);
 
 impl<T: ToLexical> Part for Formatted<'_, T> {
     #[inline(always)]

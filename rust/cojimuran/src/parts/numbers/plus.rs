@@ -9,8 +9,10 @@ use crate::parts::sealed::Sealed;
 use crate::write_integer::ToLexical;
 use crate::write_integer::format::STANDARD;
 
-/// A number in decimal that always has a sign, `+` if it is not negative: `Plus(5u8)` writes `+5`, and
-/// `Plus(-5)` writes `-5`. `ZeroPadded(Plus(42), 8)` writes `+0000042`, as `{:+08}` does. Its room is at most 21 bytes.
+/// A number in decimal that always has a sign, `+` if it is not negative: `Plus(5u8)` writes `+5`, and `Plus(-5)`
+/// writes `-5`.
+///
+/// `ZeroPadded(Plus(42), 8)` writes `+0000042`, as `{:+08}` does. Its room is at most 21 bytes.
 ///
 /// ```
 /// use cojimuran::{Part, Plus, ZeroPadded};

@@ -12,8 +12,9 @@ use crate::write_integer::digit_count::DigitCount;
 use crate::write_integer::radix::{Radix, write_in_constant_radix};
 use core::fmt;
 
-/// The digits of an unsigned number in radix 16, without a prefix: `Hex(255u32)` writes `FF`. Its room
-/// is that of its type: 2 bytes for a `u8`, and 16 for a `u64`.
+/// The digits of an unsigned number in radix 16, without a prefix: `Hex(255u32)` writes `FF`.
+///
+/// Its room is that of its type: 2 bytes for a `u8`, and 16 for a `u64`.
 ///
 /// A literal needs a type, because an `i32` is signed: `Hex(255u8)`. A signed number in a radix is written by
 /// `Formatted`.
@@ -61,9 +62,10 @@ impl<T: Radix> Show for Hex<T> {
     }
 }
 
-/// The digits of an unsigned number in radix 2, without a prefix: `Binary(5u8)` writes `101`. Its room
-/// is that of its type: 8 bytes for a `u8`, and 64 for a `u64`. A literal needs a type, because an `i32` is signed:
-/// `Binary(5u8)`.
+/// The digits of an unsigned number in radix 2, without a prefix: `Binary(5u8)` writes `101`.
+///
+/// Its room is that of its type: 8 bytes for a `u8`, and 64 for a `u64`. A literal needs a type, because an `i32` is
+/// signed: `Binary(5u8)`.
 ///
 /// ```
 /// use cojimuran::{Binary, Part};
@@ -108,9 +110,10 @@ impl<T: Radix> Show for Binary<T> {
     }
 }
 
-/// All digits of an unsigned number in radix 16, with leading zeros up to the width of its type, which is 2 for a `u8`,
-/// and 16 for a `u64` and for a `usize` on every target: `FullHex(255u16)` writes `00FF`. A literal needs a type,
-/// because an `i32` is signed. The room is this width.
+/// All digits of an unsigned number in radix 16, with leading zeros: `FullHex(255u16)` writes `00FF`.
+///
+/// The width is that of the type: 2 for a `u8`, and 16 for a `u64` and for a `usize` on every target. A literal needs a
+/// type, because an `i32` is signed. The room is this width.
 ///
 /// ```
 /// use cojimuran::{FullHex, Part};
@@ -180,8 +183,10 @@ impl Part for HexByte {
     }
 }
 
-/// The bytes of a slice in radix 16, each in two digits, with a separator between adjacent bytes: `HexBytes(&[1, 255],
-/// "")` writes `01FF`, and `HexBytes(&[1, 255], ":")` writes `01:FF`. Its room is the length of its text.
+/// The bytes of a slice in radix 16, each in two digits, with a separator between adjacent bytes.
+///
+/// `HexBytes(&[1, 255], "")` writes `01FF`, and `HexBytes(&[1, 255], ":")` writes `01:FF`. The room is the length of
+/// the text.
 ///
 /// ```
 /// use cojimuran::{HexBytes, Part};
@@ -190,7 +195,12 @@ impl Part for HexByte {
 /// assert_eq!(HexBytes(&[1, 255], ":").to_str(&mut [0; 64]), "01:FF");
 /// ```
 #[derive(Clone, Copy, PartialEq, Eq, Hash, Debug)]
-pub struct HexBytes<'a>(pub &'a [u8], pub &'a str);
+pub struct HexBytes<'a>(
+    /// The bytes.
+    pub &'a [u8],
+    /// The separator.
+    pub &'a str,
+);
 
 impl Part for HexBytes<'_> {
     #[inline(always)]

@@ -60,9 +60,10 @@ fn write_magnitude<T: ToLexical>(number: T, exponent: i32, buffer: &mut [u8]) ->
     end + write_exponent(first_exponent(digits, exponent), &mut buffer[end..])
 }
 
-/// A number times a power of ten, as `{:e}` writes one: `Scientific(1234, -59)` writes `1.234e-56`,
-/// and `Scientific(-1000, 0)` writes `-1e3`. The digits have no zeros at the end, and a point after the
-/// first if there are more. Its room is 13 bytes more than that of [`Decimal`](super::super::Decimal).
+/// A number times a power of ten, as `{:e}` writes one: `Scientific(1234, -59)` writes `1.234e-56`.
+///
+/// The digits have no zeros at the end, and a point after the first one if there are more: `Scientific(-1000, 0)`
+/// writes `-1e3`. The room is 13 bytes more than that of [`Decimal`](super::super::Decimal).
 ///
 /// ```
 /// use cojimuran::{Part, Scientific};
@@ -71,7 +72,12 @@ fn write_magnitude<T: ToLexical>(number: T, exponent: i32, buffer: &mut [u8]) ->
 /// assert_eq!(Scientific(-1000, 0).to_str(&mut [0; 64]), "-1e3");
 /// ```
 #[derive(Clone, Copy, PartialEq, Eq, Hash, Debug)]
-pub struct Scientific<T>(pub T, pub i32);
+pub struct Scientific<T>(
+    /// The number.
+    pub T,
+    /// The exponent of the power of ten.
+    pub i32,
+);
 
 impl<T: ToLexical> Part for Scientific<T> {
     #[inline]

@@ -9,7 +9,8 @@ use crate::parts::sealed::Sealed;
 use crate::write_integer::buffer::copy_to_front;
 
 /// The sign of a number: `-` if it is below 0, and otherwise nothing, or a `+` if one is required.
-/// `Sign(-5, false)` writes `-`, as `Sign(-5, true)` does, and `Sign(5, true)` writes `+`. Its room is 1.
+///
+/// `Sign(-5, false)` writes `-`, as `Sign(-5, true)` does, and `Sign(5, true)` writes `+`. The room is 1.
 ///
 /// ```
 /// use cojimuran::{Part, Sign};
@@ -18,7 +19,12 @@ use crate::write_integer::buffer::copy_to_front;
 /// assert_eq!(Sign(5, true).to_str(&mut [0; 64]), "+");
 /// ```
 #[derive(Clone, Copy, PartialEq, Eq, Hash, Debug)]
-pub struct Sign<T>(pub T, pub bool);
+pub struct Sign<T>(
+    /// The number.
+    pub T,
+    /// Whether a number that is not below 0 gets a `+`.
+    pub bool,
+);
 
 impl<T: LexicalInteger> Part for Sign<T> {
     #[inline]

@@ -26,9 +26,10 @@ fn write_trimmed_units<T: ToLexical>(number: T, decimals: usize, buffer: &mut [u
     (Bytes(&units[..whole]), ".", Bytes(&units[whole..kept])).write_to(buffer)
 }
 
-/// A number as [`Fixed`](super::super::Fixed) writes it, without zeros at the end of its fraction, and without a point
-/// if no decimal is left: `TrimmedFixed(-1500, 3)` writes `-1.5`, and `TrimmedFixed(2000u32, 3)` writes `2`. Its room
-/// is at most 22 bytes.
+/// A number as [`Fixed`](super::super::Fixed) writes it, without zeros at the end of its fraction.
+///
+/// If no decimal is left, there is no point either: `TrimmedFixed(-1500, 3)` writes `-1.5`, and `TrimmedFixed(2000u32,
+/// 3)` writes `2`. The room is at most 22 bytes.
 ///
 /// ```
 /// use cojimuran::{Part, TrimmedFixed};
@@ -37,7 +38,12 @@ fn write_trimmed_units<T: ToLexical>(number: T, decimals: usize, buffer: &mut [u
 /// assert_eq!(TrimmedFixed(2000u32, 3).to_str(&mut [0; 64]), "2");
 /// ```
 #[derive(Clone, Copy, PartialEq, Eq, Hash, Debug)]
-pub struct TrimmedFixed<T>(pub T, pub usize);
+pub struct TrimmedFixed<T>(
+    /// The number without its point: 1995 for `19.95`.
+    pub T,
+    /// The number of decimals, at most 19.
+    pub usize,
+);
 
 impl<T: ToLexical> Part for TrimmedFixed<T> {
     #[inline(always)]

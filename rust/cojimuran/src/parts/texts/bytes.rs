@@ -9,8 +9,9 @@ use crate::write_integer::buffer::copy_to_front;
 use core::fmt;
 use core::str::from_utf8;
 
-/// A part whose text is the bytes of a slice: `Bytes(b"ab")` writes `ab`. Its room is the length of the slice. In a
-/// `&str`, a `String` or a format string the bytes must be UTF-8.
+/// A part whose text is the bytes of a slice: `Bytes(b"ab")` writes `ab`.
+///
+/// Its room is the length of the slice. In a `&str`, a `String` or a format string the bytes must be UTF-8.
 ///
 /// ```
 /// use cojimuran::{Bytes, Part};

@@ -76,8 +76,10 @@ impl<P: Show> Show for Option<P> {
     }
 }
 
-/// A part that may be absent, and the part that is written in its place: `OrElse(Some(5u8), "n/a")` writes `5`, and
-/// `OrElse(None::<u8>, "n/a")` writes `n/a`. Its conditions and its room are those of the part that it writes.
+/// A part that may be absent, and the part that is written in its place.
+///
+/// `OrElse(Some(5u8), "n/a")` writes `5`, and `OrElse(None::<u8>, "n/a")` writes `n/a`. Its conditions and its room are
+/// those of the part that it writes.
 ///
 /// ```
 /// use cojimuran::{OrElse, Part};
@@ -86,7 +88,12 @@ impl<P: Show> Show for Option<P> {
 /// assert_eq!(OrElse(None::<u8>, "n/a").to_str(&mut [0; 64]), "n/a");
 /// ```
 #[derive(Clone, Copy, PartialEq, Eq, Hash, Debug)]
-pub struct OrElse<P, Q>(pub Option<P>, pub Q);
+pub struct OrElse<P, Q>(
+    /// The part that may be absent.
+    pub Option<P>,
+    /// The part that is written in its place.
+    pub Q,
+);
 
 impl<P: Part, Q: Part> Part for OrElse<P, Q> {
     #[inline(always)]

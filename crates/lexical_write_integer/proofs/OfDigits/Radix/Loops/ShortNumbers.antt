@@ -9,7 +9,7 @@ use Rattle.lexical_write_integer.specs.LoopTurns.{takes_four}
 use Rattle.lexical_write_integer.proofs.OfDigits.Count.RadixPowers.{power-gt_one}
 use Rattle.lexical_write_integer.proofs.OfDigits.Count.DigitCounts.{digit_count-fits, digit_count-le}
 
--- a quotient is 0 if and only if the number is smaller than the divisor
+-- if a quotient is not 0, the number is at least the divisor
 pub quotient-some : (k n : ℕ) → 0 < n / k → k ≤ n
 quotient-some k n some = grind (arith, cases_lt, div-eq_of_lt)
 
@@ -33,13 +33,13 @@ pub longer-than : (r n k : ℕ) → 1 ≤ k → k < digit_count r n → r ^ k �
 longer-than r n k some more = grind (arith, cases_lt, digit_count-le)
 
 -- a number of more than eight digits, and its first quotient, have more than four digits
-pub record HasEight (r n : ℕ) : Type 0 where
+pub record IsAboveEight (r n : ℕ) : Type 0 where
   pub value : r ^ 4 ≤ n
   pub first : r ^ 4 ≤ n / r ^ 4
 
 -- a number that is at least the eighth power of the radix is such a number
-pub HasEight-of : {r n : ℕ} → 2 ≤ r → r ^ 8 ≤ n → HasEight r n
-HasEight-of {r} {n} two long =
+pub IsAboveEight-of : {r n : ℕ} → 2 ≤ r → r ^ 8 ≤ n → IsAboveEight r n
+IsAboveEight-of {r} {n} two long =
     let some : 0 < r ^ 4 = omega (arith, power-gt_one r 4 two takes_four) in
     let both : r ^ 4 * r ^ 4 ≤ n = rw (pow-add r 4 4) at long in
     record { value = grind (arith, both, some); first = le-div (r ^ 4) n (r ^ 4) some both }

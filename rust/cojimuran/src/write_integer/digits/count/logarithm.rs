@@ -10,7 +10,7 @@ use crate::num::num::UnsignedInteger;
 #[inline(always)]
 #[track_caller]
 pub fn fast_log2<T: UnsignedInteger>(x: T) -> usize {
-    // The logarithm of a number that is known not to be 0 is one instruction. To set the last bit is another one.
+    // With the last bit set, the number is known not to be 0, and so its logarithm is one instruction.
     (x.as_u64() / 2 * 2 + 1).ilog2() as usize
 }
 

@@ -3,16 +3,16 @@ use Rattle.std.proofs.Common.{◌≡◌, ◌+◌, ◌/◌, ◌^◌, ◌++◌, �
 use Rattle.lexical_write_integer.specs.Buffer.{WritesDigits}
 use Rattle.lexical_write_integer.proofs.Buffers.BlocksAfter.{WritesDigits-after}
 use Rattle.lexical_write_integer.proofs.OfDigits.Radix.Loops.Notes.{slow_notes-after}
-use Rattle.lexical_write_integer.proofs.OfDigits.Radix.Loops.ShortNumbers.{HasEight-of}
+use Rattle.lexical_write_integer.proofs.OfDigits.Radix.Loops.ShortNumbers.{IsAboveEight-of}
 use Rattle.lexical_write_integer.proofs.digits.radix.count_while_writing.+count_and_write_above_eight.Goals as goal
 use Rattle.lexical_write_integer.proofs.digits.radix.count_while_writing.+count_and_write_above_eight.Goals.{then-second-eighth_power}
 use Rattle.lexical_write_integer.proofs.digits.radix.count_while_writing.+count_and_write_above_eight.Goals.{else-second-eighth_power}
 
 pub remove_four-first-requires-clause-long : goal.remove_four-first-requires-clause-long
-remove_four-first-requires-clause-long g t c = (HasEight-of c.args.table.is_radix.at_least_two c.requires.long).value
+remove_four-first-requires-clause-long g t c = (IsAboveEight-of c.args.table.is_radix.at_least_two c.requires.long).value
 
 pub remove_four-second-requires-clause-long : goal.remove_four-second-requires-clause-long
-remove_four-second-requires-clause-long g t c = grind (arith, HasEight-of)
+remove_four-second-requires-clause-long g t c = grind (arith, IsAboveEight-of)
 
 pub returns-clause-digits : goal.returns-clause-digits
 returns-clause-digits g t c =
@@ -21,7 +21,7 @@ returns-clause-digits g t c =
     let n = c.args.value in
     let first = c.remove_four-first.ensures in
     let second = c.remove_four-second.ensures in
-    let both = HasEight-of two c.requires.long in
+    let both = IsAboveEight-of two c.requires.long in
     let head = c.if-second-eighth_power.head in
     let before : WritesDigits r c.remove_four-second.result c.args.buffer.now c.if-second-eighth_power.buffer head =
     elim c.if-second-eighth_power.branch [
@@ -36,7 +36,7 @@ returns-clause-digits g t c =
     (rw c.last_four-2.ensures.digits at c.write_four-2.ensures))
 
 pub returns-clause-notes : goal.returns-clause-notes
-returns-clause-notes g t c = grind (arith, HasEight-of, slow_notes-after)
+returns-clause-notes g t c = grind (arith, IsAboveEight-of, slow_notes-after)
 
 -- the check finds this proof by itself, but with an answer the refusal of a mistake says what is wrong
 pub returns-clause-notes_in_loop : goal.returns-clause-notes_in_loop
