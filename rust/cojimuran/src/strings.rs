@@ -16,6 +16,7 @@ macro_rules! as_str {
             }
 
             #[inline(always)]
+            #[track_caller]
             fn write_to(self, buffer: &mut [u8]) -> usize {
                 let text: &str = self;
                 text.write_to(buffer)

@@ -26,6 +26,9 @@ const NONE: Attributes = Attributes { lines: "", types: "", functions: "", files
 /// For functions that must be in the code of a caller.
 const ALWAYS: Attributes = Attributes { lines: "#[inline(always)]", ..NONE };
 
+/// For functions whose panics name the line of a caller.
+const TRACKED: Attributes = Attributes { lines: "#[inline]\n#[track_caller]", ..NONE };
+
 /// For functions that must be in the code of a caller, and whose panics name its line.
 const ALWAYS_TRACKED: Attributes = Attributes { lines: "#[inline(always)]\n#[track_caller]", ..NONE };
 
@@ -57,6 +60,7 @@ pub(crate) const SOURCES: &[Source] = &[
         attributes: &[
             Attributes { lines: NO_INTEGER, types: "FormattedSize", ..NONE },
             Attributes { lines: NOT_UNSIGNED, types: "UnsignedInteger", ..NONE },
+            Attributes { functions: "build_strict", ..TRACKED },
             // So neither a new error nor a field breaks a user.
             Attributes { lines: "#[non_exhaustive]", types: "Error Options OptionsBuilder", ..NONE },
         ],
@@ -125,7 +129,6 @@ pub(crate) const SOURCES: &[Source] = &[
                 functions: "
                     texts/lower.rt:room texts/lower.rt:write_to texts/lower.rt:write_pieces layout/column.rt:room
                     layout/column.rt:write_to layout/zero_padded.rt:room layout/zero_padded.rt:write_to
-                    numbers/trimmed.rt:room
                     formatting/show.rt:write_pieces write_in_one_piece write_field write_with_length to_text
                     write_at try_write_to write_if_it_fits try_to_str str_if_it_fits
                     is_known_valid_and_utf8 room_bound has_room",
@@ -135,6 +138,11 @@ pub(crate) const SOURCES: &[Source] = &[
                     numbers/compact.rt texts/strings.rt texts/words.rt texts/chars.rt texts/bytes.rt
                     texts/option.rt",
                 ..ALWAYS_TRACKED
+            },
+            Attributes {
+                files: "
+                    texts/reference.rt numbers/plus.rt numbers/sign.rt numbers/scientific.rt numbers/trimmed.rt",
+                ..TRACKED
             },
         ],
         modules_of_laws: "laws",

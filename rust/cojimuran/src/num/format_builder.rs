@@ -140,6 +140,7 @@ impl NumberFormatBuilder {
     /// If a field is invalid, that is, if `build` returns an error.
     #[must_use]
     #[inline]
+    #[track_caller]
     pub const fn build_strict(&self) -> NumberFormat {
         // In Rust one of these says which field is invalid.
         assert!(

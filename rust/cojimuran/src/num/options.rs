@@ -147,6 +147,7 @@ impl OptionsBuilder {
     /// Returns the options.
     #[must_use]
     #[inline]
+    #[track_caller]
     pub const fn build_strict(&self) -> Options {
         self.build_unchecked()
     }

@@ -26,17 +26,20 @@ pub struct Plus<T>(pub T);
 
 impl<T: ToLexical> Part for Plus<T> {
     #[inline]
+    #[track_caller]
     fn room(self) -> usize {
         1 + T::DECIMAL_WIDTH
     }
 
     #[inline]
+    #[track_caller]
     fn write_to(self, buffer: &mut [u8]) -> usize {
         let start = Sign(self.0, true).write_to(buffer);
         start + self.0.write_magnitude(&STANDARD, &mut buffer[start..])
     }
 
     #[inline]
+    #[track_caller]
     fn text_len(self) -> Option<usize> {
         Some(1 + self.0.magnitude_digits(10))
     }
@@ -50,6 +53,7 @@ impl<T: ToLexical> Part for Plus<T> {
 
 impl<T: ToLexical> Show for Plus<T> {
     #[inline]
+    #[track_caller]
     fn is_showable(self) -> bool {
         self.is_known_valid_and_utf8(Sealed)
     }

@@ -15,6 +15,7 @@ const LONGEST_SCIENTIFIC: usize = 33;
 
 // Returns how many digits are left without the zeros at the end. At least the first `least` digits are left.
 #[inline]
+#[track_caller]
 pub(crate) fn count_without_zeros(digits: &[u8], least: usize) -> usize {
     let mut count = digits.len();
     while least < count && digits[count - 1] == b'0' {
@@ -25,6 +26,7 @@ pub(crate) fn count_without_zeros(digits: &[u8], least: usize) -> usize {
 
 // Writes the digits of a number with a point after the first, if there are more, and returns their length.
 #[inline]
+#[track_caller]
 fn write_with_point(digits: &[u8], buffer: &mut [u8]) -> usize {
     if digits.len() == 1 {
         return Bytes(digits).write_to(buffer);
@@ -34,6 +36,7 @@ fn write_with_point(digits: &[u8], buffer: &mut [u8]) -> usize {
 
 // Returns the exponent of the first of the digits, if that of the last is `exponent`. The exponent of 0 is 0.
 #[inline]
+#[track_caller]
 fn first_exponent(digits: &[u8], exponent: i32) -> i64 {
     if digits == b"0".as_slice() {
         return 0;
@@ -43,6 +46,7 @@ fn first_exponent(digits: &[u8], exponent: i32) -> i64 {
 
 // Writes `e` and the exponent to the start of the buffer, and returns the number of bytes written.
 #[inline]
+#[track_caller]
 fn write_exponent(exponent: i64, buffer: &mut [u8]) -> usize {
     let start = if exponent < 0 { "e-" } else { "e" };
     (start, exponent.unsigned_abs() as u32).write_to(buffer)
@@ -51,6 +55,7 @@ fn write_exponent(exponent: i64, buffer: &mut [u8]) -> usize {
 // Writes the absolute value of a number times 10^`exponent` to the start of the buffer, and returns the number of
 // bytes written.
 #[inline]
+#[track_caller]
 fn write_magnitude<T: ToLexical>(number: T, exponent: i32, buffer: &mut [u8]) -> usize {
     let mut digits = [0; 20];
     let count = number.write_magnitude(&STANDARD, &mut digits);
@@ -81,17 +86,20 @@ pub struct Scientific<T>(
 
 impl<T: ToLexical> Part for Scientific<T> {
     #[inline]
+    #[track_caller]
     fn room(self) -> usize {
         T::FORMATTED_SIZE_DECIMAL + 13
     }
 
     #[inline]
+    #[track_caller]
     fn write_to(self, buffer: &mut [u8]) -> usize {
         let start = Sign(self.0, false).write_to(buffer);
         start + write_magnitude(self.0, self.1, &mut buffer[start..])
     }
 
     #[inline]
+    #[track_caller]
     fn text_len(self) -> Option<usize> {
         // How many zeros the number ends with, only its digits say.
         Some(self.write_to(&mut [0; LONGEST_SCIENTIFIC]))
@@ -106,6 +114,7 @@ impl<T: ToLexical> Part for Scientific<T> {
 
 impl<T: ToLexical> Show for Scientific<T> {
     #[inline]
+    #[track_caller]
     fn is_showable(self) -> bool {
         self.is_known_valid_and_utf8(Sealed)
     }

@@ -28,11 +28,13 @@ pub struct Sign<T>(
 
 impl<T: LexicalInteger> Part for Sign<T> {
     #[inline]
+    #[track_caller]
     fn room(self) -> usize {
         1
     }
 
     #[inline]
+    #[track_caller]
     fn write_to(self, buffer: &mut [u8]) -> usize {
         if self.0.is_negative() {
             copy_to_front(b"-", buffer)
@@ -44,6 +46,7 @@ impl<T: LexicalInteger> Part for Sign<T> {
     }
 
     #[inline]
+    #[track_caller]
     fn text_len(self) -> Option<usize> {
         Some(usize::from(self.0.is_negative() || self.1))
     }
@@ -57,6 +60,7 @@ impl<T: LexicalInteger> Part for Sign<T> {
 
 impl<T: LexicalInteger> Show for Sign<T> {
     #[inline]
+    #[track_caller]
     fn is_showable(self) -> bool {
         self.is_known_valid_and_utf8(Sealed)
     }

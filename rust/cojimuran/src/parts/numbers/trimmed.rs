@@ -14,6 +14,7 @@ use crate::write_integer::ToLexical;
 // Writes the absolute value of a number of units of 10^-`decimals` to the start of the buffer, without zeros at the end
 // of its fraction, and returns the number of bytes written.
 #[inline]
+#[track_caller]
 fn write_trimmed_units<T: ToLexical>(number: T, decimals: usize, buffer: &mut [u8]) -> usize {
     let mut array = [0; 20];
     let count = write_units(number, decimals, &mut array);
@@ -46,19 +47,21 @@ pub struct TrimmedFixed<T>(
 );
 
 impl<T: ToLexical> Part for TrimmedFixed<T> {
-    #[inline(always)]
+    #[inline]
     #[track_caller]
     fn room(self) -> usize {
         Fixed(self.0, self.1).room()
     }
 
     #[inline]
+    #[track_caller]
     fn write_to(self, buffer: &mut [u8]) -> usize {
         let start = Sign(self.0, false).write_to(buffer);
         start + write_trimmed_units(self.0, self.1, &mut buffer[start..])
     }
 
     #[inline]
+    #[track_caller]
     fn text_len(self) -> Option<usize> {
         // How many zeros the fraction ends with, only its digits say.
         Some(self.write_to(&mut [0; LONGEST_FIXED]))
@@ -73,6 +76,7 @@ impl<T: ToLexical> Part for TrimmedFixed<T> {
 
 impl<T: ToLexical> Show for TrimmedFixed<T> {
     #[inline]
+    #[track_caller]
     fn is_showable(self) -> bool {
         self.is_known_valid_and_utf8(Sealed)
     }

@@ -9,16 +9,19 @@ use core::fmt;
 
 impl<P: Part> Part for &P {
     #[inline]
+    #[track_caller]
     fn room(self) -> usize {
         (*self).room()
     }
 
     #[inline]
+    #[track_caller]
     fn write_to(self, buffer: &mut [u8]) -> usize {
         (*self).write_to(buffer)
     }
 
     #[inline]
+    #[track_caller]
     fn text_len(self) -> Option<usize> {
         (*self).text_len()
     }
@@ -38,11 +41,13 @@ impl<P: Part> Part for &P {
 
 impl<P: Show> Show for &P {
     #[inline]
+    #[track_caller]
     fn is_showable(self) -> bool {
         (*self).is_showable()
     }
 
     #[inline]
+    #[track_caller]
     fn write_pieces<O: fmt::Write>(self, out: &mut O) -> fmt::Result {
         (*self).write_pieces(out)
     }
