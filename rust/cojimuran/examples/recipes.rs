@@ -4,10 +4,20 @@ use cojimuran::{
     Append, Buffer, Digits, Displayed, Fixed, Formatted, GroupedFixed, Hex, HexBytes, Joined, Left,
     Lower, NumberFormat, NumberFormatBuilder, Padded, Part, Right, Show, Shown, ZeroPadded,
 };
+use std::fmt;
 
 const THOUSANDS: NumberFormat = NumberFormatBuilder::new()
     .digit_grouping(3, b',')
     .build_strict();
+
+/// A type with a `Display` of its own.
+struct Point(i32, i32);
+
+impl fmt::Display for Point {
+    fn fmt(&self, f: &mut fmt::Formatter<'_>) -> fmt::Result {
+        ("(", self.0, ", ", self.1, ")").write_pieces(f)
+    }
+}
 
 fn main() {
     // A row of CSV at the end of a `String`, or of any other `fmt::Write`.
@@ -59,4 +69,5 @@ fn main() {
     assert_eq!(line.to_text(&mut buffer), text.as_bytes());
     assert_eq!(format!("{}", Shown(line)), text);
     assert_eq!(format!("{:>6}", Hex(255u16)), "    FF");
+    assert_eq!(Point(3, -4).to_string(), "(3, -4)");
 }

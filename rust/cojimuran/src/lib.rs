@@ -20,6 +20,7 @@
 //! | a part in an array, as bytes | [`part.to_text(&mut buffer)`](Part::to_text) |
 //! | a part in an array that may be too short | [`part.try_to_str(&mut buffer)`](Part::try_to_str) |
 //! | a part in a format string | [`Shown(part)`](Shown) |
+//! | a part in a file, `stdout` or any other `io::Write` | `file.write_all(part.to_text(&mut buffer))?` or `write!(file, "{}", Shown(part))?` |
 //!
 //! An array must have [`part.room()`](Part::room) bytes, otherwise `to_str`
 //! [panics](conditions#what-happens-otherwise). [A table](conditions#how-long-a-buffer-must-be) has the room of each
@@ -48,7 +49,7 @@
 //!
 //! | purpose | items |
 //! |---|---|
-//! | to move from the crate `lexical-write-integer`, with its names | [`ToLexical`] writes bytes in decimal, and [`ToLexicalWithOptions`] in a [`NumberFormat`]; [`Options`] has no fields; the modules write digits without a sign |
+//! | to move from the crate `lexical-write-integer`, with its names | [`ToLexical`] writes bytes in decimal, and [`ToLexicalWithOptions`] in a [`NumberFormat`]; [`Options`] has no fields; the modules [`compact`], [`decimal`], [`padded`] and [`radix`] write digits without a sign |
 //! | to write into a buffer at a place of your own | [`write_field`] and [`write_with_length`] for a header, [`padded::write_padded`] for a number over a whole buffer, [`compact::Compact`] for digits in little code, [`group_digits`], [`write_sign`] and [`sign_len`] for a writer of your own |
 //!
 //! These pages have the details: [when calls panic, and how long a buffer must be](conditions), [what they cost](costs),
@@ -58,9 +59,9 @@
 //! # What is proved
 //!
 //! The sources are written in Rattle, a dialect of Rust with contracts, and each of their functions is proved: if its
-//! [conditions] hold, a call does not panic, and writes exactly the right bytes (`{}` and `write_pieces` if they
-//! succeed). The prover is not public. A program makes this Rust code from the sources, and the Rust code is tested,
-//! not proved. [`Displayed`] and what needs the feature `alloc` are written by hand.
+//! [conditions] hold, a call does not panic, and writes exactly the right bytes. The prover is not public. A program
+//! makes this Rust code from the sources, and the Rust code is tested, not proved. That `{}` and `write_pieces` succeed
+//! is also only tested. [`Displayed`] and what needs the feature `alloc` are written by hand.
 //!
 //! # What allocates
 //!
@@ -173,7 +174,7 @@ mod misuse;
 
 /// A page, not a module: what to write if rustc refuses a call.
 ///
-/// The message may name another method than `to_str`, or `Show` in place of a part.
+/// The message may name another method than `to_str`, or say "is not a part with `Show`" in place of "is not a part".
 ///
 /// | rustc says | write |
 /// |---|---|
@@ -188,6 +189,8 @@ mod misuse;
 /// | `to_str` exists for `(&str, Shown<u8>)`, but its trait bounds were not satisfied | the part without `Shown` |
 /// | cannot borrow `buffer` as mutable more than once | a buffer for each text that you keep |
 /// | no method named `write_pieces` | `use cojimuran::Show` |
+/// | `Stdout: std::fmt::Write` is not satisfied, or `File` or `Vec<u8>` in its place | `out.write_all(line.to_text(&mut buffer))`, or `write!(out, "{}", Shown(line))`; for a `Vec` also `line.append_to(&mut vec)` |
+/// | cannot call non-const method `<u64 as Part>::room` in constants | the sum of the rooms of the parts, from [a table](conditions#how-long-a-buffer-must-be) |
 /// | no method named `append_to`, or unresolved import `cojimuran::Append` | `use cojimuran::Append`, and the feature `alloc` |
 /// | `(&str, u8)` doesn't implement `Display` | `Shown((..))` |
 /// | type alias takes 1 generic argument but 2 generic arguments were supplied | the names that you use, in place of `use cojimuran::*`, which also imports a `Result` |

@@ -21,6 +21,7 @@ fn from_format_and_write() -> std::io::Result<()> {
     let kept = text.format(number);
     assert_eq!(kept, "7");
 
+    assert_eq!(Shown((a, ",", b)).to_string(), format!("{a},{b}"));
     let mut text = String::new();
     (a, ",", b, "\n").write_pieces(&mut text).unwrap();
     assert_eq!(text, format!("{a},{b}\n"));
