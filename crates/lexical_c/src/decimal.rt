@@ -5,20 +5,14 @@ ghost use Rattle.std.specs.Prelude.{◌≡◌, pos};
 ghost use Rattle.lexical_c.specs.Buffer.{WritesOrRefuses};
 
 use crate::format::DECIMAL;
-use crate::integer::WideInteger;
+use crate::integer::CInteger;
 use lexical_num::format::STANDARD;
 use lexical_write_integer::buffer::copy_to_front;
 use lexical_write_integer::laws::size_suffices;
 use lexical_write_integer::{BUFFER_SIZE, ToLexicalWithOptions};
 
 /// Writes a number in decimal to the buffer, and returns the length of its text, or 0 if the text does not fit.
-/// `wide` is the same number, in a type of 64 bits.
-pub fn write_decimal<T: ToLexicalWithOptions, W: WideInteger>(
-    value: T,
-    wide: W,
-    buffer: &mut [u8],
-) -> usize
-    requires { W.number wide ≡ T.number value }
+pub fn write_decimal<T: CInteger>(value: T, buffer: &mut [u8]) -> usize
     ensures { WritesOrRefuses (T.number value) DECIMAL buffer.old buffer.new result }
 {
     value.in_range();
@@ -26,7 +20,7 @@ pub fn write_decimal<T: ToLexicalWithOptions, W: WideInteger>(
     if T::FORMATTED_SIZE_DECIMAL <= buffer.len() {
         value.write_lexical(buffer)
     } else {
-        write_decimal_by_array(wide, buffer)
+        write_decimal_by_array(value.widen(), buffer)
     }
 }
 
@@ -51,7 +45,7 @@ fn write_decimal_by_array<T: ToLexicalWithOptions>(value: T, buffer: &mut [u8]) 
 pub extern "C" fn lexical_decimal_u8(value: u8, buffer: &mut [u8]) -> usize
     ensures { WritesOrRefuses (pos value) DECIMAL buffer.old buffer.new result }
 {
-    write_decimal::<u8, i64>(value, value as i64, buffer)
+    write_decimal::<u8>(value, buffer)
 }
 
 /// Writes a `uint16_t` in decimal to the buffer, and returns the length of its text, or 0 if it does not fit.
@@ -59,7 +53,7 @@ pub extern "C" fn lexical_decimal_u8(value: u8, buffer: &mut [u8]) -> usize
 pub extern "C" fn lexical_decimal_u16(value: u16, buffer: &mut [u8]) -> usize
     ensures { WritesOrRefuses (pos value) DECIMAL buffer.old buffer.new result }
 {
-    write_decimal::<u16, i64>(value, value as i64, buffer)
+    write_decimal::<u16>(value, buffer)
 }
 
 /// Writes a `uint32_t` in decimal to the buffer, and returns the length of its text, or 0 if it does not fit.
@@ -67,7 +61,7 @@ pub extern "C" fn lexical_decimal_u16(value: u16, buffer: &mut [u8]) -> usize
 pub extern "C" fn lexical_decimal_u32(value: u32, buffer: &mut [u8]) -> usize
     ensures { WritesOrRefuses (pos value) DECIMAL buffer.old buffer.new result }
 {
-    write_decimal::<u32, i64>(value, value as i64, buffer)
+    write_decimal::<u32>(value, buffer)
 }
 
 /// Writes a `uint64_t` in decimal to the buffer, and returns the length of its text, or 0 if it does not fit.
@@ -75,7 +69,7 @@ pub extern "C" fn lexical_decimal_u32(value: u32, buffer: &mut [u8]) -> usize
 pub extern "C" fn lexical_decimal_u64(value: u64, buffer: &mut [u8]) -> usize
     ensures { WritesOrRefuses (pos value) DECIMAL buffer.old buffer.new result }
 {
-    write_decimal::<u64, u64>(value, value, buffer)
+    write_decimal::<u64>(value, buffer)
 }
 
 /// Writes a `size_t` in decimal to the buffer, and returns the length of its text, or 0 if it does not fit.
@@ -83,7 +77,7 @@ pub extern "C" fn lexical_decimal_u64(value: u64, buffer: &mut [u8]) -> usize
 pub extern "C" fn lexical_decimal_size(value: usize, buffer: &mut [u8]) -> usize
     ensures { WritesOrRefuses (pos value) DECIMAL buffer.old buffer.new result }
 {
-    write_decimal::<usize, u64>(value, value as u64, buffer)
+    write_decimal::<u64>(value as u64, buffer)
 }
 
 /// Writes an `int8_t` in decimal to the buffer, and returns the length of its text, or 0 if it does not fit.
@@ -91,7 +85,7 @@ pub extern "C" fn lexical_decimal_size(value: usize, buffer: &mut [u8]) -> usize
 pub extern "C" fn lexical_decimal_i8(value: i8, buffer: &mut [u8]) -> usize
     ensures { WritesOrRefuses value DECIMAL buffer.old buffer.new result }
 {
-    write_decimal::<i8, i64>(value, value as i64, buffer)
+    write_decimal::<i8>(value, buffer)
 }
 
 /// Writes an `int16_t` in decimal to the buffer, and returns the length of its text, or 0 if it does not fit.
@@ -99,7 +93,7 @@ pub extern "C" fn lexical_decimal_i8(value: i8, buffer: &mut [u8]) -> usize
 pub extern "C" fn lexical_decimal_i16(value: i16, buffer: &mut [u8]) -> usize
     ensures { WritesOrRefuses value DECIMAL buffer.old buffer.new result }
 {
-    write_decimal::<i16, i64>(value, value as i64, buffer)
+    write_decimal::<i16>(value, buffer)
 }
 
 /// Writes an `int32_t` in decimal to the buffer, and returns the length of its text, or 0 if it does not fit.
@@ -107,7 +101,7 @@ pub extern "C" fn lexical_decimal_i16(value: i16, buffer: &mut [u8]) -> usize
 pub extern "C" fn lexical_decimal_i32(value: i32, buffer: &mut [u8]) -> usize
     ensures { WritesOrRefuses value DECIMAL buffer.old buffer.new result }
 {
-    write_decimal::<i32, i64>(value, value as i64, buffer)
+    write_decimal::<i32>(value, buffer)
 }
 
 /// Writes an `int64_t` in decimal to the buffer, and returns the length of its text, or 0 if it does not fit.
@@ -115,5 +109,5 @@ pub extern "C" fn lexical_decimal_i32(value: i32, buffer: &mut [u8]) -> usize
 pub extern "C" fn lexical_decimal_i64(value: i64, buffer: &mut [u8]) -> usize
     ensures { WritesOrRefuses value DECIMAL buffer.old buffer.new result }
 {
-    write_decimal::<i64, i64>(value, value, buffer)
+    write_decimal::<i64>(value, buffer)
 }

@@ -3,22 +3,17 @@
 //! The functions that write a number in decimal, without a format. Each returns the length of the text, or
 //! returns 0 and leaves the buffer unchanged if the text does not fit.
 
-use crate::integer::WideInteger;
+use crate::integer::CInteger;
 use cojimuran::buffer::copy_to_front;
 use cojimuran::{BUFFER_SIZE, ToLexicalWithOptions};
 
 /// Writes a number in decimal to the buffer, and returns the length of its text, or 0 if the text does not fit.
-/// `wide` is the same number, in a type of 64 bits.
 #[inline]
-pub fn write_decimal<T: ToLexicalWithOptions, W: WideInteger>(
-    value: T,
-    wide: W,
-    buffer: &mut [u8],
-) -> usize {
+pub fn write_decimal<T: CInteger>(value: T, buffer: &mut [u8]) -> usize {
     if T::FORMATTED_SIZE_DECIMAL <= buffer.len() {
         value.write_lexical(buffer)
     } else {
-        write_decimal_by_array(wide, buffer)
+        write_decimal_by_array(value.widen(), buffer)
     }
 }
 
@@ -38,53 +33,53 @@ fn write_decimal_by_array<T: ToLexicalWithOptions>(value: T, buffer: &mut [u8]) 
 /// Writes a `uint8_t` in decimal to the buffer, and returns the length of its text, or 0 if it does not fit.
 #[inline]
 pub fn lexical_decimal_u8(value: u8, buffer: &mut [u8]) -> usize {
-    write_decimal::<u8, i64>(value, value as i64, buffer)
+    write_decimal::<u8>(value, buffer)
 }
 
 /// Writes a `uint16_t` in decimal to the buffer, and returns the length of its text, or 0 if it does not fit.
 #[inline]
 pub fn lexical_decimal_u16(value: u16, buffer: &mut [u8]) -> usize {
-    write_decimal::<u16, i64>(value, value as i64, buffer)
+    write_decimal::<u16>(value, buffer)
 }
 
 /// Writes a `uint32_t` in decimal to the buffer, and returns the length of its text, or 0 if it does not fit.
 #[inline]
 pub fn lexical_decimal_u32(value: u32, buffer: &mut [u8]) -> usize {
-    write_decimal::<u32, i64>(value, value as i64, buffer)
+    write_decimal::<u32>(value, buffer)
 }
 
 /// Writes a `uint64_t` in decimal to the buffer, and returns the length of its text, or 0 if it does not fit.
 #[inline]
 pub fn lexical_decimal_u64(value: u64, buffer: &mut [u8]) -> usize {
-    write_decimal::<u64, u64>(value, value, buffer)
+    write_decimal::<u64>(value, buffer)
 }
 
 /// Writes a `size_t` in decimal to the buffer, and returns the length of its text, or 0 if it does not fit.
 #[inline]
 pub fn lexical_decimal_size(value: usize, buffer: &mut [u8]) -> usize {
-    write_decimal::<usize, u64>(value, value as u64, buffer)
+    write_decimal::<u64>(value as u64, buffer)
 }
 
 /// Writes an `int8_t` in decimal to the buffer, and returns the length of its text, or 0 if it does not fit.
 #[inline]
 pub fn lexical_decimal_i8(value: i8, buffer: &mut [u8]) -> usize {
-    write_decimal::<i8, i64>(value, value as i64, buffer)
+    write_decimal::<i8>(value, buffer)
 }
 
 /// Writes an `int16_t` in decimal to the buffer, and returns the length of its text, or 0 if it does not fit.
 #[inline]
 pub fn lexical_decimal_i16(value: i16, buffer: &mut [u8]) -> usize {
-    write_decimal::<i16, i64>(value, value as i64, buffer)
+    write_decimal::<i16>(value, buffer)
 }
 
 /// Writes an `int32_t` in decimal to the buffer, and returns the length of its text, or 0 if it does not fit.
 #[inline]
 pub fn lexical_decimal_i32(value: i32, buffer: &mut [u8]) -> usize {
-    write_decimal::<i32, i64>(value, value as i64, buffer)
+    write_decimal::<i32>(value, buffer)
 }
 
 /// Writes an `int64_t` in decimal to the buffer, and returns the length of its text, or 0 if it does not fit.
 #[inline]
 pub fn lexical_decimal_i64(value: i64, buffer: &mut [u8]) -> usize {
-    write_decimal::<i64, i64>(value, value, buffer)
+    write_decimal::<i64>(value, buffer)
 }
