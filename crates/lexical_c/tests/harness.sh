@@ -7,12 +7,11 @@ passed=0 failed=0
 # expect WHAT COMMAND..: one test, which passes if the command succeeds. It runs in a subshell, so no test changes a
 # variable of another.
 expect() {
-  what=$1; shift
-  if ("$@") > "$work/log" 2>&1; then
+  if (shift; "$@") > "$work/log" 2>&1; then
     passed=$((passed + 1))
   else
     failed=$((failed + 1))
-    echo "failed: $what"
+    echo "failed: $1"
     cat "$work/log"
   fi
 }
@@ -20,12 +19,12 @@ expect() {
 # stop WHAT: ends a test as failed, and says at which step. A step is `COMMAND || stop WHAT`.
 stop() { echo "failed at: $1"; exit 1; }
 
-# expect_with TOOLS WHAT COMMAND..: the same, if the machine has these tools.
+# expect_with TOOLS WHAT COMMAND..: `expect`, if the machine has these tools.
 expect_with() {
-  tools=$1; shift
-  for tool in $tools; do
-    if ! has "$tool"; then echo "left out: $1, for want of $tool"; return; fi
+  for tool in $1; do
+    if ! has "$tool"; then echo "left out: $2, for want of $tool"; return; fi
   done
+  shift
   expect "$@"
 }
 
