@@ -1,4 +1,4 @@
-# Tests of what make builds and links, which tests/run reads.
+# Tests of what make builds, links and checks, which tests/run reads.
 # shellcheck shell=sh disable=SC2086,SC2154
 
 # what_is_linked WORD..: calls make, and prints the shared library if it is linked.
@@ -27,7 +27,19 @@ takes_target() {
     stop 'the command line'
 }
 
+# Whether the dynamic linker resolves all names of the library first, and then makes their table read-only, neither its
+# stack is executable nor its code changed, and its link took the flags.
+is_hardened() {
+  readelf -dlW "$folder/liblexical_c.so" > "$work/read" || stop 'readelf'
+  grep GNU_RELRO "$work/read" || stop 'a read-only table'
+  grep 'GNU_STACK.* RW ' "$work/read" || stop 'a stack that is not executable'
+  grep 'FLAGS_1.*NOW GLOBAL NODELETE' "$work/read" || stop 'names resolved first, and the flags of the link'
+  fails grep TEXTREL "$work/read" || stop 'code that is not changed'
+}
+
 check_make() {
   expect 'the TARGET of make' takes_target
   expect 'what make links' links_after_changes
+  expect 'the hardening of the shared library' is_hardened
+  expect 'make check' prints 'the static and the shared library have passed' make_c check
 }

@@ -1,0 +1,37 @@
+# Tests of the names of the functions in the installed libraries and in the manual, which tests/run reads.
+# shellcheck shell=sh disable=SC2086,SC2154
+
+# names FLAGS FILE: prints the names that nm finds, without their addresses and kinds.
+names() { nm $1 "$2" | sed -n 's/^[0-9a-f ]* [A-Zu] //p' | sed 's/@@/@/; /^LEXICAL_C_/d' | LC_ALL=C sort; }
+
+# Whether the nodes of released versions have the names that the releases had, and no others. Only a release writes the
+# file, so a change of exports.map that moves or removes a name of a release does not change it too.
+keeps_released_names() {
+  sed -n 's/^ \(lexical_.*\) [0-9.]*$/\1/p' "$crate/package/debian/liblexical-c$major.symbols" > "$work/released"
+  sed 's/.*\(@.*\)/\1$/' "$work/released" | sort -u > "$work/nodes"
+  names '-D --defined-only --with-symbol-versions' "$folder/liblexical_c.so" > "$work/exported"
+  [ -s "$work/released" ] || stop 'the names of released versions'
+  grep -f "$work/nodes" "$work/exported" | diff "$work/released" - || stop 'the names in these nodes'
+}
+
+# Prints what the archive uses of the C library, and not what 32 bits also need of the compiler.
+imported_names() { names -u "$library" | grep -vx '_GLOBAL_OFFSET_TABLE_\|__u...di3' | tr '\n' ' '; }
+
+# Whether man finds the page by the name of each function, and shows it in 80 columns without a warning.
+shows_manual() {
+  for name in $wanted; do man -M "$prefix/share/man" -w "$name" || stop "the page of $name"; done
+  LC_ALL=C MANWIDTH=80 man -M "$prefix/share/man" --warnings "$name" > "$work/manual" 2> "$work/said" || stop 'man'
+  grep SYNOPSIS "$work/manual" || stop 'the synopsis'
+  fails grep '.\{81\}' "$work/manual" || stop 'lines of 80 columns'
+  prints '' cat "$work/said" || stop 'no warning'
+}
+
+check_names() {
+  wanted=$($CC -E -P "$crate/include/lexical.h" | sed -n 's/.*_t \(lexical_[a-z0-9_]*\)(.*/\1/p' | LC_ALL=C sort)
+  expect 'the names of the archive are those of the header' prints "$wanted" names '-g --defined-only' "$library"
+  expect 'the names of the shared library are those of the header' prints "$wanted" \
+    names '-D --defined-only --without-symbol-versions' "$folder/liblexical_c.so"
+  expect 'the names of released versions are in their nodes' keeps_released_names
+  expect 'what the archive uses' prints "$imported" imported_names
+  expect_with man 'the manual' shows_manual
+}
