@@ -34,22 +34,25 @@ of_each_type() {
   for type in u8 u16 u32 u64 size i8 i16 i32 i64; do printf "%s($type) " "$@"; done
 }
 
-# calls_of_kind KIND COMPILER: prints the calls of refused.c that the standard of a compiler has. The kinds are any;
-# value, of which the type of the value chooses the function; format, with a pointer to a format; size, with the size of
-# a buffer; and radix, of which it prints two.
+# calls_of_kind KIND COMPILER: prints the calls of refused.c of this kind that the standard of a compiler has. A row of
+# the table has the languages and the kinds of some calls. c is C99 and later. Each call is of the kind `any`. Of the
+# kind `value` are those whose function is chosen by the type of the value. Others have a pointer to a `format`, the
+# `size` of a buffer, or a `radix`. In C89 one type stands for all, because each checks a radix alike.
 calls_of_kind() {
-  case ${2##*=}:$1 in
-    c89:any) echo CHECK_FORMAT PAD "$(of_each_type DECIMAL_OF WRITE_OF LENGTH_OF BUFFER_SIZE_OF)" ;;
-    c89:value) ;;
-    c89:format) echo CHECK_FORMAT "$(of_each_type WRITE_OF LENGTH_OF BUFFER_SIZE_OF)" ;;
-    c89:size) echo PAD "$(of_each_type DECIMAL_OF WRITE_OF)" ;;
-    c89:radix) echo 'WRITE_OF(u32) LENGTH_OF(u32)' ;;
-    c++*:any | c++*:value) echo DECIMAL WRITE LENGTH WRITE_OBJECT LENGTH_OBJECT ;;
-    c++*:size) echo DECIMAL WRITE WRITE_OBJECT ;;
-    *:any | *:value) echo DECIMAL WRITE LENGTH ;;
-    *:size) echo DECIMAL WRITE ;;
-    *:format | *:radix) echo WRITE LENGTH ;;
-  esac
+  case ${2##*=} in c89) language=c89 ;; c++*) language=c++ ;; *) language=c ;; esac
+  while IFS='|' read -r languages kinds calls; do
+    case " $languages:$kinds " in *" $language "*:*" $1 "*) echo "$calls" ;; esac
+  done << END
+c c++ | any value size              | DECIMAL
+c c++ | any value size format radix | WRITE
+c c++ | any value format radix      | LENGTH
+c++   | any value size              | WRITE_OBJECT
+c++   | any value                   | LENGTH_OBJECT
+c89   | any format                  | CHECK_FORMAT $(of_each_type LENGTH_OF BUFFER_SIZE_OF)
+c89   | any format size             | $(of_each_type WRITE_OF)
+c89   | any size                    | PAD $(of_each_type DECIMAL_OF)
+c89   | radix                       | WRITE_OF(u32) LENGTH_OF(u32)
+END
 }
 
 # what_is_said COMPILER CALL FLAGS: prints what a compiler says of a call of refused.c. The call is not inlined, so an
