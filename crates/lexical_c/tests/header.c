@@ -31,34 +31,35 @@ static void check_text(size_t count, const char *wanted)
 }
 
 /*
- * HAS: each function has this type, and in C++11 and later it is known not to throw. RADIX: the format of a radix as an
- * argument. IN_CXX: a statement that only C++ has. NOEXCEPT: whether a call does not throw.
+ * DECLARE: a second declaration of a function, which compiles only if the header has the same type, and in C++11 and
+ * later also noexcept. RADIX: the format of a radix as an argument. IN_CXX: a statement that only C++ has. NOEXCEPT:
+ * whether a call does not throw.
  */
 #ifndef __cplusplus
-#define HAS(function) function;
+#define DECLARE(function) function;
 #define RADIX(number) &(const struct lexical_format)LEXICAL_RADIX(number)
 #define IN_CXX(statement)
 #define NOEXCEPT(call) 1
 #elif __cplusplus >= 201103L
-#define HAS(function) extern "C" function noexcept;
+#define DECLARE(function) extern "C" function noexcept;
 #define RADIX(number) LEXICAL_RADIX(number)
 #define IN_CXX(statement) statement
 #define NOEXCEPT(call) noexcept(call)
 #else
-#define HAS(function)
+#define DECLARE(function)
 #define IN_CXX(statement) statement
 #define NOEXCEPT(call) 1
 #endif
-#define HAS_EACH(NAME, CONSTANT, TYPE)                                         \
-    HAS(size_t lexical_decimal_##NAME(TYPE, char *, size_t))                   \
-    HAS(size_t lexical_write_##NAME(TYPE, const struct lexical_format *, char *, size_t)) \
-    HAS(size_t lexical_length_##NAME(TYPE, const struct lexical_format *))     \
-    HAS(size_t lexical_buffer_size_##NAME(const struct lexical_format *))
-FOR_EACH_TYPE(HAS_EACH)
-HAS(size_t lexical_pad(size_t, size_t, char *, size_t))
-HAS(size_t lexical_terminate(size_t, char *, size_t))
-HAS(uint32_t lexical_version(void))
-HAS(uint32_t lexical_check_format(const struct lexical_format *))
+#define DECLARE_EACH(NAME, CONSTANT, TYPE)                                     \
+    DECLARE(size_t lexical_decimal_##NAME(TYPE, char *, size_t))               \
+    DECLARE(size_t lexical_write_##NAME(TYPE, const struct lexical_format *, char *, size_t)) \
+    DECLARE(size_t lexical_length_##NAME(TYPE, const struct lexical_format *)) \
+    DECLARE(size_t lexical_buffer_size_##NAME(const struct lexical_format *))
+FOR_EACH_TYPE(DECLARE_EACH)
+DECLARE(size_t lexical_pad(size_t, size_t, char *, size_t))
+DECLARE(size_t lexical_terminate(size_t, char *, size_t))
+DECLARE(uint32_t lexical_version(void))
+DECLARE(uint32_t lexical_check_format(const struct lexical_format *))
 
 /* Zeros, as the header explains them, and the version as a number and as a string. */
 static void check_examples(void)
@@ -77,13 +78,13 @@ static void check_changes(void)
 {
     struct lexical_format format = LEXICAL_STANDARD_FORMAT;
     size_t length, size;
-#define CHANGES(NAME, CONSTANT, TYPE)                                          \
+#define CHECK_CHANGE(NAME, CONSTANT, TYPE)                                     \
     format.radix = 10;                                                         \
     length = lexical_length_##NAME(100, &format), size = lexical_buffer_size_##NAME(&format); \
     format.radix = 2;                                                          \
     check(length == 3 && lexical_length_##NAME(100, &format) == 7, "lexical_length_" #NAME); \
     check(size < lexical_buffer_size_##NAME(&format), "lexical_buffer_size_" #NAME);
-    FOR_EACH_TYPE(CHANGES)
+    FOR_EACH_TYPE(CHECK_CHANGE)
     check(sizeof format == 28 && lexical_check_format(&format) == 0, "LEXICAL_STANDARD_FORMAT");
     format.radix = 1;
     check(lexical_check_format(&format) == LEXICAL_INVALID_RADIX, "lexical_check_format");
@@ -115,36 +116,36 @@ static void check_radices(void)
     }
 }
 
-/* Calls of the functions that a type chooses: each returns the length of the text that is now in the buffer. */
-#define IS(call, wanted) check_text(call, wanted), check(NOEXCEPT(call), #call);
-#define TRY(type, value, decimal, hexadecimal)                                 \
+/* Checks a call of a function that a type chooses: it returns the length of the text that is now in the buffer. */
+#define CHECK_CALL(call, wanted) check_text(call, wanted), check(NOEXCEPT(call), #call);
+#define CHECK_TYPE(type, value, decimal, hexadecimal)                          \
     {                                                                          \
         const type number = (type)(value);                                     \
-        IS(lexical_decimal(number, buffer, sizeof buffer), decimal)            \
-        IS(lexical_write(number, &HEXADECIMAL, buffer, 128), hexadecimal)      \
-        IS(lexical_length(number, &HEXADECIMAL), hexadecimal)                  \
+        CHECK_CALL(lexical_decimal(number, buffer, sizeof buffer), decimal)    \
+        CHECK_CALL(lexical_write(number, &HEXADECIMAL, buffer, 128), hexadecimal) \
+        CHECK_CALL(lexical_length(number, &HEXADECIMAL), hexadecimal)          \
         /* A format that is no pointer. */                                     \
-        IN_CXX(IS(lexical_write(number, HEXADECIMAL, buffer, 128), hexadecimal)) \
-        IN_CXX(IS(lexical_length(number, HEXADECIMAL), hexadecimal))           \
+        IN_CXX(CHECK_CALL(lexical_write(number, HEXADECIMAL, buffer, 128), hexadecimal)) \
+        IN_CXX(CHECK_CALL(lexical_length(number, HEXADECIMAL), hexadecimal))   \
     }
 
 static void check_choice(void)
 {
     static const struct lexical_format HEXADECIMAL = FORMAT(16, 1, 4, '_', 0);
-    TRY(unsigned char, -1, "255", "+FF")
-    TRY(unsigned short, -1, "65535", "+FFFF")
-    TRY(unsigned int, -1, "4294967295", "+FFFF_FFFF")
-    TRY(signed char, -128, "-128", "-80")
-    TRY(short, -32768, "-32768", "-8000")
-    TRY(int, -2147483647 - 1, "-2147483648", "-8000_0000")
-    TRY(long, -2147483647L - 1, "-2147483648", "-8000_0000")
+    CHECK_TYPE(unsigned char, -1, "255", "+FF")
+    CHECK_TYPE(unsigned short, -1, "65535", "+FFFF")
+    CHECK_TYPE(unsigned int, -1, "4294967295", "+FFFF_FFFF")
+    CHECK_TYPE(signed char, -128, "-128", "-80")
+    CHECK_TYPE(short, -32768, "-32768", "-8000")
+    CHECK_TYPE(int, -2147483647 - 1, "-2147483648", "-8000_0000")
+    CHECK_TYPE(long, -2147483647L - 1, "-2147483648", "-8000_0000")
 #if SIZE_MAX > UINT32_MAX
-    TRY(unsigned long, -1, "18446744073709551615", "+FFFF_FFFF_FFFF_FFFF")
-    TRY(long, -4611686018427387904L, "-4611686018427387904", "-4000_0000_0000_0000")
+    CHECK_TYPE(unsigned long, -1, "18446744073709551615", "+FFFF_FFFF_FFFF_FFFF")
+    CHECK_TYPE(long, -4611686018427387904L, "-4611686018427387904", "-4000_0000_0000_0000")
 #endif
 #if !defined(__cplusplus) || __cplusplus >= 201103L
-    TRY(unsigned long long, -1, "18446744073709551615", "+FFFF_FFFF_FFFF_FFFF")
-    TRY(long long, -4611686018427387904LL, "-4611686018427387904", "-4000_0000_0000_0000")
+    CHECK_TYPE(unsigned long long, -1, "18446744073709551615", "+FFFF_FFFF_FFFF_FFFF")
+    CHECK_TYPE(long long, -4611686018427387904LL, "-4611686018427387904", "-4000_0000_0000_0000")
 #endif
 }
 
@@ -152,14 +153,15 @@ static void check_choice(void)
 static void check_unnamed_formats(void)
 {
 #if !defined(__cplusplus) || __cplusplus >= 201103L
-    IS(lexical_write(48879, RADIX(16), buffer, sizeof buffer), "BEEF")
-    IS(lexical_length(48879, RADIX(16)), "BEEF")
-    IS(lexical_write(-1234567, LEXICAL_FORMAT(10, 0, 3, ',', 0, { 0, 0 }), buffer, sizeof buffer), "-1,234,567")
+    CHECK_CALL(lexical_write(48879, RADIX(16), buffer, sizeof buffer), "BEEF")
+    CHECK_CALL(lexical_length(48879, RADIX(16)), "BEEF")
+    CHECK_CALL(lexical_write(-1234567, LEXICAL_FORMAT(10, 0, 3, ',', 0, { 0, 0 }), buffer, sizeof buffer), "-1,234,567")
 #endif
 #if !defined(__cplusplus) || __cplusplus >= 202002L
-    IS(lexical_write(48879, LEXICAL_FORMAT(.radix = 16), buffer, sizeof buffer), "BEEF")
-    IS(lexical_write(1234567, LEXICAL_FORMAT(.radix = 10, .group_size = 3, .mark = '.'), buffer, 128), "1.234.567")
-    IS(lexical_length(1234567, LEXICAL_FORMAT(.radix = 10, .group_size = 3, .mark = '.')), "1.234.567")
+    CHECK_CALL(lexical_write(48879, LEXICAL_FORMAT(.radix = 16), buffer, sizeof buffer), "BEEF")
+    CHECK_CALL(lexical_write(1234567, LEXICAL_FORMAT(.radix = 10, .group_size = 3, .mark = '.'), buffer, 128),
+               "1.234.567")
+    CHECK_CALL(lexical_length(1234567, LEXICAL_FORMAT(.radix = 10, .group_size = 3, .mark = '.')), "1.234.567")
     check(lexical_write(1, LEXICAL_FORMAT(.radix = 37), buffer, sizeof buffer) == 0, "LEXICAL_FORMAT of no radix");
 #endif
 }
@@ -193,7 +195,7 @@ static void check_language(void)
 #elif __cplusplus >= 201402L
     lexical_format defaults;
     defaults.radix = 16;
-    IS(lexical_write(48879, defaults, buffer, sizeof buffer), "BEEF")
+    CHECK_CALL(lexical_write(48879, defaults, buffer, sizeof buffer), "BEEF")
 #endif
 }
 #endif

@@ -36,31 +36,31 @@ static uint64_t next_random(void)
     return random ^ random >> 32;
 }
 
-/* A type: its name, its sizes, and its functions by the call, which take the bits of a number. */
-enum call { DECIMAL, WRITE, LENGTH, BUFFER_SIZE };
+/* A type: its name, its sizes, and a call of each of its functions, which take the bits of a number. */
+enum function { DECIMAL, WRITE, LENGTH, BUFFER_SIZE };
 struct type {
     const char *name;
     bool is_signed;
     unsigned bits;
     size_t size, decimal_size;
-    size_t (*call)(enum call, uint64_t, const struct lexical_format *, char *, size_t);
+    size_t (*call)(enum function, uint64_t, const struct lexical_format *, char *, size_t);
 };
 
-#define FUNCTION(NAME, CONSTANT, TYPE)                                         \
-    static size_t call_##NAME(enum call call, uint64_t bits, const struct lexical_format *format, char *buffer, \
-                              size_t length)                                   \
+#define DEFINE_CALL(NAME, CONSTANT, TYPE)                                      \
+    static size_t call_##NAME(enum function function, uint64_t bits, const struct lexical_format *format, \
+                              char *buffer, size_t length)                     \
     {                                                                          \
-        return call == DECIMAL ? lexical_decimal_##NAME((TYPE)bits, buffer, length) \
-            : call == WRITE    ? lexical_write_##NAME((TYPE)bits, format, buffer, length) \
-            : call == LENGTH   ? lexical_length_##NAME((TYPE)bits, format)     \
-                               : lexical_buffer_size_##NAME(format);           \
+        return function == DECIMAL ? lexical_decimal_##NAME((TYPE)bits, buffer, length) \
+            : function == WRITE    ? lexical_write_##NAME((TYPE)bits, format, buffer, length) \
+            : function == LENGTH   ? lexical_length_##NAME((TYPE)bits, format) \
+                                   : lexical_buffer_size_##NAME(format);       \
     }
-FOR_EACH_TYPE(FUNCTION)
+FOR_EACH_TYPE(DEFINE_CALL)
 
-#define TYPE(NAME, CONSTANT, TYPE)                                             \
+#define ROW(NAME, CONSTANT, TYPE)                                              \
     { #NAME, (TYPE)-1 < 1, 8 * sizeof(TYPE), LEXICAL_BUFFER_SIZE_##CONSTANT, LEXICAL_BUFFER_SIZE_DECIMAL_##CONSTANT, \
       call_##NAME },
-static const struct type TYPES[] = { FOR_EACH_TYPE(TYPE) };
+static const struct type TYPES[] = { FOR_EACH_TYPE(ROW) };
 #define TYPE_COUNT (sizeof TYPES / sizeof TYPES[0])
 enum { U8, U16, U32, U64, SIZE, I8, I16, I32, I64 };
 
@@ -108,8 +108,8 @@ static char *new_page(size_t size, size_t offset)
  * if the text does not fit or is empty. The buffer and the format are each next to a page that may not be accessed,
  * before or after them. This side and the bytes vary from call to call.
  */
-static void check_writer(const struct type *type, enum call call, uint64_t bits, const struct lexical_format *format,
-                         size_t length, const char *text)
+static void check_writer(const struct type *type, enum function function, uint64_t bits,
+                         const struct lexical_format *format, size_t length, const char *text)
 {
     static const int BEFORE[] = { 0x5a, 0xff, 0x00, '7' };
     char bytes[192];
@@ -123,7 +123,7 @@ static void check_writer(const struct type *type, enum call call, uint64_t bits,
     memcpy(around, bytes, sizeof bytes);
     memcpy(bytes + offset, text, wanted);
     memcpy(copy, format, sizeof *format);
-    size_t count = type->call(call, bits, (const struct lexical_format *)copy, around + offset, length);
+    size_t count = type->call(function, bits, (const struct lexical_format *)copy, around + offset, length);
     bool is_same = memcmp(around, bytes, sizeof bytes) == 0 && memcmp(copy, format, sizeof *format) == 0;
     check(count == wanted && is_same, "%s of %016" PRIx64 " in %zu bytes: %zu, %.*s; format %u, %u, %u, %u, %u\n",
           type->name, bits, length, count, (int)length, around + offset, format->radix, format->required_sign,
@@ -223,15 +223,15 @@ static void check_conversion(void)
         snprintf(text, sizeof text, PATTERNS[i % 5], bits);
         check_text(i % 5 == 4 ? I64 : U64, bits, format, text);
     }
-#define TEXT(type, bits, radix, sign, group_size, mark, lowercase, text)       \
+#define CHECK_TEXT(type, bits, radix, sign, group_size, mark, lowercase, text) \
     check_text(type, bits, (struct lexical_format)FORMAT(radix, sign, group_size, mark, lowercase), text);
-    TEXT(I32, (uint32_t)-1234567, 10, 0, 3, ',', 0, "-1,234,567")
-    TEXT(U64, 999, 10, 1, 3, '.', 0, "+999")
-    TEXT(I8, 128, 2, 0, 4, '_', 0, "-1000_0000")
-    TEXT(U32, UINT32_MAX, 3, 0, 0, 0, 0, "102002022201221111210")
-    TEXT(U64, UINT64_MAX, 36, 0, 0, 0, 0, "3W5E11264SGSF")
-    TEXT(I64, (uint64_t)INT64_MIN, 36, 1, 0, 0, 1, "-1y2p0ij32e8e8")
-    TEXT(U16, 0xbeef, 16, 1, 2, '_', 1, "+be_ef")
+    CHECK_TEXT(I32, (uint32_t)-1234567, 10, 0, 3, ',', 0, "-1,234,567")
+    CHECK_TEXT(U64, 999, 10, 1, 3, '.', 0, "+999")
+    CHECK_TEXT(I8, 128, 2, 0, 4, '_', 0, "-1000_0000")
+    CHECK_TEXT(U32, UINT32_MAX, 3, 0, 0, 0, 0, "102002022201221111210")
+    CHECK_TEXT(U64, UINT64_MAX, 36, 0, 0, 0, 0, "3W5E11264SGSF")
+    CHECK_TEXT(I64, (uint64_t)INT64_MIN, 36, 1, 0, 0, 1, "-1y2p0ij32e8e8")
+    CHECK_TEXT(U16, 0xbeef, 16, 1, 2, '_', 1, "+be_ef")
     check(LEXICAL_BUFFER_SIZE == TYPES[U64].size, "LEXICAL_BUFFER_SIZE\n");
 }
 
