@@ -10,9 +10,9 @@ impl Random {
         self.0 >> 32 ^ self.0
     }
 
-    /// Returns a number below another one.
-    pub fn below(&mut self, most: u64) -> u64 {
-        self.bits() % most
+    /// Returns a number that is less than the limit.
+    pub fn below(&mut self, limit: u64) -> u64 {
+        self.bits() % limit
     }
 
     /// Returns a number of any length.
