@@ -1,6 +1,7 @@
 //! Parts in format strings, beside what the standard library writes there.
 
 use cojimuran::{Show, Shown};
+use std::fmt::{Display, Write};
 
 /// Compares a part with a value of the standard library in each of these format strings, which may name variables.
 #[macro_export]
@@ -23,4 +24,9 @@ pub fn check_text<P: Show>(part: P, text: &str) {
     for n in 0..=text.chars().count() + 3 {
         check_shown(part, text, n);
     }
+}
+
+/// Returns whether a format string with this argument is an error, with and without a width.
+pub fn is_refused(shown: impl Display) -> bool {
+    write!(String::new(), "{shown}").is_err() && write!(String::new(), "{shown:9}").is_err()
 }

@@ -4,6 +4,7 @@
 use cojimuran::*;
 use cojimuran::{NumberFormat, NumberFormatBuilder};
 use repository_tests::check_formats;
+use repository_tests::formats::is_refused;
 use std::fmt::{Display, Write};
 
 /// Compares a part with an integer, with each of these options, in each width. The integer has a kind, such as `X`.
@@ -206,4 +207,22 @@ fn padded_digits() {
         let more = PaddedDigits(radix, most.saturating_add(1), width);
         assert_eq!(write!(String::new(), "{more}").is_ok(), most == u64::MAX);
     }
+}
+
+#[test]
+fn numbers_that_are_refused() {
+    assert!(is_refused(Digits(37, 5u8)) && is_refused(Fixed(7u8, 20)));
+    for part in [Padded(10u64, 1), Padded(1, 0)] {
+        assert!(is_refused(part), "{part:?}");
+    }
+    for part in [PaddedDigits(1, 0u8, 2), PaddedDigits(37, 0, 2), PaddedDigits(16, 16, 1), PaddedDigits(2, 1, 0)] {
+        assert!(is_refused(part), "{part:?}");
+    }
+}
+
+/// `to_string` cannot return the error.
+#[test]
+#[should_panic(expected = "a Display implementation returned an error unexpectedly")]
+fn a_string_of_a_number_that_is_refused() {
+    drop(Fixed(7u8, 20).to_string());
 }

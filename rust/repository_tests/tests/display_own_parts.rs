@@ -1,8 +1,8 @@
 //! Parts of a caller in format strings, and parts that are refused there.
 
 use cojimuran::*;
-use repository_tests::formats::check_text;
-use std::fmt::{Display, Write};
+use repository_tests::formats::{check_text, is_refused};
+use std::fmt::Write;
 
 /// A caller's own part, which is valid if its number is not the least one.
 #[derive(Clone, Copy)]
@@ -88,10 +88,6 @@ fn columns_of_own_texts() {
     }
 }
 
-fn is_refused(shown: impl Display) -> bool {
-    write!(String::new(), "{shown}").is_err() && write!(String::new(), "{shown:9}").is_err()
-}
-
 fn check_refused<P: Show>(part: P) {
     assert!(is_refused(Shown(part)));
     assert!(part.write_pieces(&mut String::new()).is_err());
@@ -128,21 +124,4 @@ fn parts_that_are_refused() {
     check_refused((Byte(0xC3), Byte(0xA9)));
     check_refused(Left(1u8, 2, 128));
     check_refused(Joined(&[Padded(1u8, 1), Padded(10, 1)], ","));
-}
-
-#[test]
-fn numbers_that_are_refused() {
-    assert!(is_refused(Digits(37, 5u8)));
-    for part in [Padded(10u64, 1), Padded(1, 0)] {
-        assert!(is_refused(part), "{part:?}");
-    }
-    for part in [PaddedDigits(1, 0u8, 2), PaddedDigits(37, 0, 2), PaddedDigits(16, 16, 1), PaddedDigits(2, 1, 0)] {
-        assert!(is_refused(part), "{part:?}");
-    }
-}
-
-#[test]
-#[should_panic]
-fn twenty_decimals() {
-    drop(Fixed(7u8, 20).to_string());
 }
