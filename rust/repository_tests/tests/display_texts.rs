@@ -97,36 +97,37 @@ fn long_numbers_with_zeros() {
     assert_eq!(format!("{:>305}", ZeroPadded("+", 300)), format!("     +{}", "0".repeat(299)));
 }
 
-/// A part in a format string: by its own `Display`, or if it has none, as the method of a reference, by `Shown`.
-struct InFormat<P>(P);
+/// A part that is an argument of a format string.
+struct Argument<P>(P);
 
-trait InFormats {
+/// A part is shown by its own `Display`. If it has none, a call finds the method of a reference, which uses `Shown`.
+trait FormatTexts {
     fn texts(&self) -> [String; 2];
 }
 
-impl<P: Display> InFormats for InFormat<P> {
+impl<P: Display> FormatTexts for Argument<P> {
     fn texts(&self) -> [String; 2] {
         [self.0.to_string(), format!("{:*^99}", self.0)]
     }
 }
 
-impl<P: Show> InFormats for &InFormat<P> {
+impl<P: Show> FormatTexts for &Argument<P> {
     fn texts(&self) -> [String; 2] {
-        InFormat(Shown(self.0)).texts()
+        Argument(Shown(self.0)).texts()
     }
 }
 
-macro_rules! check_in_formats {
+macro_rules! check_in_format_strings {
     ($v:ident; $($room:literal, $text:literal => $part:expr $(, where $($field:ident = $value:expr),+)?;)+) => { $(
         let $v = Values { $($($field: $value,)+)? ..LONGEST };
         _ = $v;
         let expected = [$text.to_owned(), format!("{:*^99}", $text)];
-        assert_eq!((&InFormat($part)).texts(), expected, "{{}} of {}", stringify!($part));
-        assert_eq!(InFormat(Shown($part)).texts(), expected, "{{}} of a Shown({})", stringify!($part));
+        assert_eq!((&Argument($part)).texts(), expected, "{{}} of {}", stringify!($part));
+        assert_eq!(Argument(Shown($part)).texts(), expected, "{{}} of a Shown({})", stringify!($part));
     )+ };
 }
 
 #[test]
 fn each_part_in_format_strings() {
-    each_part!(check_in_formats);
+    each_part!(check_in_format_strings);
 }
