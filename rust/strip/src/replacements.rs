@@ -106,6 +106,15 @@ pub(crate) const RULES: &[(&str, &[(&str, &str)])] = &[
             (".cast_signed()", " as i64"),
         ],
     ),
+    // Here each part is also compared with what `{:e}` writes.
+    (
+        "uses/tests/scientific.rt",
+        &[
+            ("add(unsigned, Scientific(", "add(unsigned, repository_tests::scientific::as_rust("),
+            ("add(signed, Scientific(", "add(signed, repository_tests::scientific::as_rust("),
+            ("add(floats, Scientific(", "add(floats, repository_tests::scientific::as_rust("),
+        ],
+    ),
     // For everything, and for the examples in documentation.
     (
         "",
