@@ -12,10 +12,17 @@ use std::time::Instant;
 /// How many numbers a pass writes.
 const COUNT: usize = 10_000;
 
-/// The numbers of a pass: small, of any length in bits, and of any value.
-const DISTRIBUTIONS: [&str; 3] = ["below 1000", "of 1 to 64 bits", "of 64 bits"];
+/// Makes a number from numbers of 64 random bits.
+type Distribution = fn(&mut dyn FnMut() -> u64) -> u64;
 
-fn numbers(distribution: usize) -> Vec<u64> {
+/// The numbers of a pass: small, of any length in bits, and of any value.
+const DISTRIBUTIONS: [(Distribution, &str); 3] = [
+    (|random| random() % 1000, "below 1000"),
+    (|random| random() >> (random() % 64), "of 1 to 64 bits"),
+    (|random| random(), "of 64 bits"),
+];
+
+fn numbers(distribution: Distribution) -> Vec<u64> {
     let mut state = 0x9e37_79b9_7f4a_7c15_u64;
     let mut random = || {
         state ^= state << 13;
@@ -23,12 +30,7 @@ fn numbers(distribution: usize) -> Vec<u64> {
         state ^= state << 17;
         state
     };
-    let mut number = || match distribution {
-        0 => random() % 1000,
-        1 => random() >> (random() % 64),
-        _ => random(),
-    };
-    (0..COUNT).map(|_| number()).collect()
+    (0..COUNT).map(|_| distribution(&mut random)).collect()
 }
 
 /// Writes the numbers to a target, and returns how many bytes that were.
@@ -83,7 +85,7 @@ const COLUMNS: &str = "| text | numbers | to | here, ns | std, ns | ratio |";
 fn print_times(count: usize) {
     println!("{COLUMNS}\n|---|---|---|---|---|---|");
     for row in rows() {
-        for (distribution, name) in DISTRIBUTIONS.iter().enumerate() {
+        for (distribution, name) in DISTRIBUTIONS {
             let numbers = numbers(distribution);
             for (target, to) in TARGETS.iter().enumerate() {
                 show_progress(&format!("measuring {} to {to}", row.name));
@@ -128,10 +130,12 @@ mod tests {
 
     #[test]
     fn numbers_of_each_distribution() {
-        let lengths = |distribution| numbers(distribution).into_iter().map(|number| u64::BITS - number.leading_zeros());
-        assert!((990..1000).contains(&numbers(0).into_iter().max().unwrap()));
-        assert!((1..64).all(|bits| lengths(1).any(|length| length == bits)) && lengths(2).min() > Some(48));
-        assert_eq!([0, 1, 2].map(|distribution| numbers(distribution).len()), [COUNT; 3]);
+        let [small, of_any_length, of_any_value] = DISTRIBUTIONS.map(|(distribution, _)| numbers(distribution));
+        let lengths = |numbers: &[u64]| numbers.iter().map(|n| u64::BITS - n.leading_zeros()).collect::<Vec<_>>();
+        assert!((990..1000).contains(small.iter().max().unwrap()));
+        assert!((1..64).all(|bits| lengths(&of_any_length).contains(&bits)));
+        assert!(lengths(&of_any_value).iter().min() > Some(&48));
+        assert_eq!([small, of_any_length, of_any_value].map(|numbers| numbers.len()), [COUNT; 3]);
     }
 
     #[test]
