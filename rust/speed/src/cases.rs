@@ -1,10 +1,10 @@
-//! What is written, and where to: each loop is a function of its own, so neither it nor the call in it is shared.
+//! What is written, and where to. Each loop is a function of its own for each case and each call, so none is shared.
 
 use cojimuran::{
     Append, Digits, Hex, Lower, NumberFormat, NumberFormatBuilder, Options, Part, Show, Shown, ToLexical,
     ToLexicalWithOptions,
 };
-use std::fmt;
+use std::fmt::Write as _;
 use std::hint::black_box;
 use std::io::Write;
 
@@ -61,7 +61,7 @@ macro_rules! case {
 
                 #[inline(always)]
                 fn append_by_std($number: u64, text: &mut String) -> Option<()> {
-                    fmt::Write::write_fmt(text, format_args!($($text)+)).ok()
+                    write!(text, $($text)+).ok()
                 }
             )?
         }
@@ -95,40 +95,71 @@ pub fn is_same<C: Case>(number: u64) -> bool {
     C::write_by_std(number, &mut text).is_none_or(|()| buffer[..count] == *text)
 }
 
-/// Where the texts go.
-pub const TARGETS: [&str; 6] =
-    ["an array", "a slice", "a `Vec`", "`append_to` a `String`", "`write_pieces` to it", "`{}` to it"];
+/// Where the texts go, and for a `String` by which call.
+#[derive(Clone, Copy)]
+pub enum Target {
+    Array,
+    Slice,
+    Vector,
+    Append,
+    Pieces,
+    Format,
+}
+
+/// Each target, and its name in the table.
+pub const TARGETS: [(Target, &str); 6] = [
+    (Target::Array, "an array"),
+    (Target::Slice, "a slice"),
+    (Target::Vector, "a `Vec`"),
+    (Target::Append, "`append_to` a `String`"),
+    (Target::Pieces, "`write_pieces` to it"),
+    (Target::Format, "`{}` to it"),
+];
 
 /// The length of the arrays and slices.
 const SIZE: usize = 64;
 
 /// Writes the text of each number to a target, and returns how many bytes that were.
-pub fn write_all<C: Case>(target: usize, numbers: &[u64]) -> usize {
+#[allow(clippy::redundant_closure, reason = "a call of a function is not always inlined as one in a closure is")]
+pub fn write_all<C: Case>(target: Target, numbers: &[u64]) -> usize {
     match target {
-        0 => to_array::<C>(numbers),
-        1 => to_slice::<C>(numbers, black_box(&mut [0; SIZE])),
-        2 => to_vector::<C>(numbers),
-        3 => append_all::<C>(numbers),
-        4 => write_all_pieces::<C>(numbers),
-        _ => format_all::<C>(numbers),
+        Target::Array => to_array(numbers, |number, buffer| C::write(number, buffer)),
+        Target::Slice => to_slice(numbers, black_box(&mut [0; SIZE]), |number, buffer| C::write(number, buffer)),
+        Target::Vector => to_vector(numbers, |number, bytes| {
+            let start = bytes.len();
+            bytes.resize(start + C::ROOM, 0);
+            let count = C::write(number, &mut bytes[start..]);
+            bytes.truncate(start + count);
+        }),
+        Target::Append => to_string(numbers, |number, text| C::part(number).append_to(text)),
+        Target::Pieces => to_string(numbers, |number, text| _ = C::part(number).write_pieces(text)),
+        Target::Format => to_string(numbers, |number, text| _ = write!(text, "{}", Shown(C::part(number)))),
     }
 }
 
 /// Does what `write_all` does, with the standard library.
-pub fn write_all_by_std<C: Case>(target: usize, numbers: &[u64]) -> usize {
+pub fn write_all_by_std<C: Case>(target: Target, numbers: &[u64]) -> usize {
+    let write = |number, mut rest: &mut [u8]| {
+        C::write_by_std(number, &mut rest);
+        SIZE - rest.len()
+    };
     match target {
-        0 => to_array_by_std::<C>(numbers),
-        1 => to_slice_by_std::<C>(numbers, black_box(&mut [0; SIZE])),
-        2 => to_vector_by_std::<C>(numbers),
-        _ => append_all_by_std::<C>(numbers),
+        Target::Array => to_array(numbers, write),
+        Target::Slice => to_slice(numbers, black_box(&mut [0; SIZE]), write),
+        Target::Vector => to_vector(numbers, |number, bytes| _ = C::write_by_std(number, bytes)),
+        Target::Append | Target::Pieces | Target::Format => {
+            to_string(numbers, |number, text| _ = C::append_by_std(number, text))
+        }
     }
 }
 
+// Each loop takes the call that writes a number, or appends it.
+
 #[inline(never)]
-fn to_array<C: Case>(numbers: &[u64]) -> usize {
+fn to_array(numbers: &[u64], write: impl Fn(u64, &mut [u8]) -> usize) -> usize {
     let mut buffer = [0; SIZE];
     let write = |number: &u64| {
-        let count = C::write(black_box(*number), &mut buffer);
+        let count = write(black_box(*number), &mut buffer);
         black_box(&buffer);
         count
     };
@@ -136,9 +167,9 @@ fn to_array<C: Case>(numbers: &[u64]) -> usize {
 }
 
 #[inline(never)]
-fn to_slice<C: Case>(numbers: &[u64], buffer: &mut [u8]) -> usize {
+fn to_slice(numbers: &[u64], buffer: &mut [u8], write: impl Fn(u64, &mut [u8]) -> usize) -> usize {
     let write = |number: &u64| {
-        let count = C::write(black_box(*number), buffer);
+        let count = write(black_box(*number), buffer);
         black_box(&buffer);
         count
     };
@@ -146,83 +177,19 @@ fn to_slice<C: Case>(numbers: &[u64], buffer: &mut [u8]) -> usize {
 }
 
 #[inline(never)]
-fn to_vector<C: Case>(numbers: &[u64]) -> usize {
+fn to_vector(numbers: &[u64], append: impl Fn(u64, &mut Vec<u8>)) -> usize {
     let mut bytes = Vec::new();
     for number in numbers {
-        let start = bytes.len();
-        bytes.resize(start + C::ROOM, 0);
-        let count = C::write(black_box(*number), &mut bytes[start..]);
-        bytes.truncate(start + count);
+        append(black_box(*number), &mut bytes);
     }
     black_box(&bytes).len()
 }
 
 #[inline(never)]
-fn to_array_by_std<C: Case>(numbers: &[u64]) -> usize {
-    let mut buffer = [0; SIZE];
-    let write = |number: &u64| {
-        let mut rest = &mut buffer[..];
-        C::write_by_std(black_box(*number), &mut rest);
-        let count = SIZE - rest.len();
-        black_box(&buffer);
-        count
-    };
-    numbers.iter().map(write).sum()
-}
-
-#[inline(never)]
-fn to_slice_by_std<C: Case>(numbers: &[u64], buffer: &mut [u8]) -> usize {
-    let write = |number: &u64| {
-        let mut rest = &mut *buffer;
-        C::write_by_std(black_box(*number), &mut rest);
-        let count = SIZE - rest.len();
-        black_box(&buffer);
-        count
-    };
-    numbers.iter().map(write).sum()
-}
-
-#[inline(never)]
-fn to_vector_by_std<C: Case>(numbers: &[u64]) -> usize {
-    let mut bytes = Vec::new();
-    for number in numbers {
-        C::write_by_std(black_box(*number), &mut bytes);
-    }
-    black_box(&bytes).len()
-}
-
-#[inline(never)]
-fn append_all<C: Case>(numbers: &[u64]) -> usize {
+fn to_string(numbers: &[u64], append: impl Fn(u64, &mut String)) -> usize {
     let mut text = String::new();
     for number in numbers {
-        C::part(black_box(*number)).append_to(&mut text);
-    }
-    black_box(&text).len()
-}
-
-#[inline(never)]
-fn write_all_pieces<C: Case>(numbers: &[u64]) -> usize {
-    let mut text = String::new();
-    for number in numbers {
-        let _ = C::part(black_box(*number)).write_pieces(&mut text);
-    }
-    black_box(&text).len()
-}
-
-#[inline(never)]
-fn format_all<C: Case>(numbers: &[u64]) -> usize {
-    let mut text = String::new();
-    for number in numbers {
-        let _ = fmt::Write::write_fmt(&mut text, format_args!("{}", Shown(C::part(black_box(*number)))));
-    }
-    black_box(&text).len()
-}
-
-#[inline(never)]
-fn append_all_by_std<C: Case>(numbers: &[u64]) -> usize {
-    let mut text = String::new();
-    for number in numbers {
-        C::append_by_std(black_box(*number), &mut text);
+        append(black_box(*number), &mut text);
     }
     black_box(&text).len()
 }

@@ -3,7 +3,9 @@
 
 mod cases;
 
-use cases::{Case, Decimal, Hexadecimal, Line, Lowercase, Radix36, TARGETS, is_same, write_all, write_all_by_std};
+use cases::{
+    Case, Decimal, Hexadecimal, Line, Lowercase, Radix36, TARGETS, Target, is_same, write_all, write_all_by_std,
+};
 use std::hint::black_box;
 use std::io::IsTerminal;
 use std::process::ExitCode;
@@ -34,7 +36,7 @@ fn numbers(distribution: Distribution) -> Vec<u64> {
 }
 
 /// Writes the numbers to a target, and returns how many bytes that were.
-type Pass = fn(usize, &[u64]) -> usize;
+type Pass = fn(Target, &[u64]) -> usize;
 
 /// A row of the table: what is written, whether a text is that of the standard library, and the passes of both.
 struct Row {
@@ -60,7 +62,7 @@ fn text_of(mut times: Vec<f64>) -> (f64, String) {
 }
 
 /// Returns the times of interleaved passes.
-fn measure(passes: &[Pass], target: usize, numbers: &[u64], count: usize) -> Vec<Vec<f64>> {
+fn measure(passes: &[Pass], target: Target, numbers: &[u64], count: usize) -> Vec<Vec<f64>> {
     let mut times = vec![Vec::new(); passes.len()];
     for _ in 0..count {
         for (pass, times) in passes.iter().zip(&mut times) {
@@ -87,7 +89,7 @@ fn print_times(count: usize) {
     for row in rows() {
         for (distribution, name) in DISTRIBUTIONS {
             let numbers = numbers(distribution);
-            for (target, to) in TARGETS.iter().enumerate() {
+            for (target, to) in TARGETS {
                 show_progress(&format!("measuring {} to {to}", row.name));
                 let passes: Vec<Pass> = std::iter::once(row.ours).chain(row.std).collect();
                 let lengths: Vec<usize> = passes.iter().map(|pass| pass(target, &numbers)).collect();
@@ -151,8 +153,8 @@ mod tests {
     #[test]
     fn texts_are_those_of_std() {
         assert!(rows().iter().all(|row| [0, 9, 10, 65_535, u64::MAX].into_iter().all(row.is_same)));
-        assert!(
-            rows().iter().filter(|row| row.std.is_some()).all(|row| (row.ours)(0, &[12]) == row.std.unwrap()(0, &[12]))
-        );
+        for (ours, std) in rows().iter().filter_map(|row| Some((row.ours, row.std?))) {
+            assert!(TARGETS.iter().all(|(target, _)| ours(*target, &[12]) == std(*target, &[12])));
+        }
     }
 }
