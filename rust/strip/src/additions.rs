@@ -9,14 +9,14 @@ use crate::tokens::{Token, closing, words};
 pub(crate) fn add(tokens: &mut [Token], file: &File) {
     for function in functions(tokens) {
         let mut lines = inlining(tokens, &function, file).to_owned();
-        if file.source.is_documented() && function.is_for_users(tokens) && must_be_used(tokens, &function) {
+        if file.recipe.is_documented() && function.is_for_users(tokens) && must_be_used(tokens, &function) {
             lines.insert_str(0, "#[must_use]\n");
         }
         insert_lines(&mut tokens[function.visibility], &lines);
     }
     for at in 0..tokens.len() {
         if tokens[at].is_in(&["struct", "enum", "trait"]) {
-            let attributes = file.source.attributes_of_type(&tokens[at + 1].text).unwrap_or_default();
+            let attributes = file.recipe.attributes_of_type(&tokens[at + 1].text).unwrap_or_default();
             let first = start(tokens, at);
             insert_lines(&mut tokens[first], attributes);
         }
@@ -26,10 +26,10 @@ pub(crate) fn add(tokens: &mut [Token], file: &File) {
 /// Returns the attributes for inlining. Tests need none, and a function with an ABI has attributes of its own.
 fn inlining(tokens: &[Token], function: &Function, file: &File) -> &'static str {
     let is_exported = tokens[function.visibility..function.at].iter().any(|token| *token == "extern");
-    if tokens[function.body] != "{" || file.source.is_test() || is_exported {
+    if tokens[function.body] != "{" || file.recipe.is_test() || is_exported {
         return "";
     }
-    file.source.attributes_of_function(function.name(tokens), &file.path).unwrap_or("#[inline]")
+    file.recipe.attributes_of_function(function.name(tokens), &file.path).unwrap_or("#[inline]")
 }
 
 /// Returns whether the result of a function is all that it is called for.

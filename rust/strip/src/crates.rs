@@ -1,9 +1,9 @@
 //! The crates, what is made of each, and the names that the steps need to know.
 
-use crate::source::{Attributes, Source};
+use crate::recipe::{Attributes, Recipe};
 
 /// What the crates of the library are made into.
-const LIBRARY: Source = Source {
+const LIBRARY: Recipe = Recipe {
     name: "",
     package: "cojimuran",
     module: "",
@@ -15,10 +15,10 @@ const LIBRARY: Source = Source {
 };
 
 /// What the crates of the program are made into.
-const PROGRAM: Source = Source { package: "lexwrite", ..LIBRARY };
+const PROGRAM: Recipe = Recipe { package: "lexwrite", ..LIBRARY };
 
 /// What the crates that only test are made into.
-const TESTS: Source = Source { package: "repository_tests", ..LIBRARY };
+const TESTS: Recipe = Recipe { package: "repository_tests", ..LIBRARY };
 
 /// Attributes that nothing has.
 const NONE: Attributes = Attributes { lines: "", types: "", functions: "", files: "" };
@@ -53,8 +53,8 @@ note = "a value with `Display` is a part as `Displayed(&value)`; implement `Show
     a tuple has 2 to 12 members")]"#;
 
 /// The crates of which files are made.
-pub(crate) const SOURCES: &[Source] = &[
-    Source {
+pub(crate) const RECIPES: &[Recipe] = &[
+    Recipe {
         name: "lexical_num",
         module: "num",
         attributes: &[
@@ -68,8 +68,8 @@ pub(crate) const SOURCES: &[Source] = &[
         laws: "in_range fits_bits",
         ..LIBRARY
     },
-    Source { name: "lexical_tables", module: "tables", ..LIBRARY },
-    Source {
+    Recipe { name: "lexical_tables", module: "tables", ..LIBRARY },
+    Recipe {
         name: "lexical_write_integer",
         module: "write_integer",
         attributes: &[
@@ -100,7 +100,7 @@ pub(crate) const SOURCES: &[Source] = &[
         laws: "note_up_to_eight note_up_to_four",
         ..LIBRARY
     },
-    Source {
+    Recipe {
         name: "lexical_parts",
         module: "parts",
         attributes: &[
@@ -149,7 +149,7 @@ pub(crate) const SOURCES: &[Source] = &[
         laws: "rooms_at_most formatted_room_suffices str_is_utf8",
         ..LIBRARY
     },
-    Source {
+    Recipe {
         name: "lexical_lines",
         module: "lines",
         modules_left_out: "devices/trace",
@@ -157,7 +157,7 @@ pub(crate) const SOURCES: &[Source] = &[
         laws: "record_put record_flush",
         ..PROGRAM
     },
-    Source {
+    Recipe {
         name: "lexical_c",
         package: "lexical_c",
         attributes: &[
@@ -170,7 +170,7 @@ pub(crate) const SOURCES: &[Source] = &[
         constants_left_out: "DECIMAL",
         ..LIBRARY
     },
-    Source {
+    Recipe {
         name: "uses",
         module: "uses",
         modules_left_out: "exact_conditions/clones other_laws recorded_turns",
@@ -179,7 +179,7 @@ pub(crate) const SOURCES: &[Source] = &[
             same_counter same_link same_user different_codes same_row sorts_by_time same_timed",
         ..TESTS
     },
-    Source { name: "tests", ..TESTS },
+    Recipe { name: "tests", ..TESTS },
 ];
 
 /// The types of counters, and the names that all variables, parameters and fields of these types have.

@@ -59,7 +59,7 @@ fn item_left_out(tokens: &[Token], at: usize, modules: &[&str], laws: &Names) ->
 /// Leaves out imports of what is left out, and of what only that has named. Tests may import what they do not use.
 pub(crate) fn without_imports(tokens: &mut Vec<Token>, file: &File, laws: &Names) {
     let used = words_outside_imports(tokens);
-    let used_before = if file.source.is_test() { Names::new() } else { words_outside_imports(&file.tokens) };
+    let used_before = if file.recipe.is_test() { Names::new() } else { words_outside_imports(&file.tokens) };
     let is_gone = |name: &str| name == "Model" || COUNTERS.contains(&name) || laws.contains(name);
     let is_unused = |name: &str| used_before.contains(name) && !used.contains(name);
     for at in (0..tokens.len()).rev().filter(|at| tokens[*at] == "use").collect::<Vec<_>>() {

@@ -13,7 +13,7 @@
 //!    requires.
 //!
 //! `crates` lists the crates, what is made of each, and the names that the steps need to know, such as those of laws;
-//! `source` says what each list is. What no step knows is an error with the file and the line. A rule or a listed name
+//! `recipe` says what each list is. What no step knows is an error with the file and the line. A rule or a listed name
 //! that is for nothing is an error too.
 
 #![forbid(unsafe_code)]
@@ -26,17 +26,17 @@ mod files;
 mod items;
 mod laws;
 mod left_out;
+mod recipe;
 mod replacements;
 mod repository;
 mod rules;
-mod source;
 mod tokens;
 
-use crates::SOURCES;
+use crates::RECIPES;
 use files::{files_of, laid_out, read, remove, without_layout, write};
+use recipe::Recipe;
 use repository::{File, Repository};
 use rules::Rule;
-use source::Source;
 use std::collections::BTreeMap;
 use std::path::{Path, PathBuf};
 
@@ -72,8 +72,8 @@ pub fn check(top: &Path) -> Result<(), String> {
 /// Makes the files of a package that are not committed, in the folder of what its build script makes. The documentation
 /// of a root is a file of its own, because a file that is included cannot have that of the one that includes it.
 pub fn make_built(top: &Path, package: &str, folder: &Path) -> Result<(), String> {
-    let repository = Repository::read(top, SOURCES, Rule::all())?;
-    for (path, text) in files_of_sources(&repository, |source| source.package == package)? {
+    let repository = Repository::read(top, RECIPES, Rule::all())?;
+    for (path, text) in files_of_recipes(&repository, |recipe| recipe.package == package)? {
         let (file, is_root) = (folder.join(&path), path.ends_with("lib.rs"));
         let is_documentation = |line: &&str| is_root && line.starts_with("//!");
         let (documentation, code): (Vec<&str>, Vec<&str>) = text.lines().partition(is_documentation);
@@ -82,15 +82,15 @@ pub fn make_built(top: &Path, package: &str, folder: &Path) -> Result<(), String
             write(&file.with_extension("md"), &documentation.join("\n").replace("//! ", "").replace("//!", ""))?;
         }
     }
-    for source in SOURCES.iter().filter(|source| source.package == package) {
-        println!("cargo::rerun-if-changed={}", top.join(source.folder_of_crate()).display());
+    for recipe in RECIPES.iter().filter(|recipe| recipe.package == package) {
+        println!("cargo::rerun-if-changed={}", top.join(recipe.folder_of_crate()).display());
     }
     Ok(())
 }
 
 /// Returns each file that is made of the repository in this folder and is committed.
 fn committed_files(top: &Path) -> Result<Files, String> {
-    let files = files_of_sources(&Repository::read(top, SOURCES, Rule::all())?, Source::is_committed)?;
+    let files = files_of_recipes(&Repository::read(top, RECIPES, Rule::all())?, Recipe::is_committed)?;
     files.into_iter().map(|(path, text)| Ok((path, laid_out(&text, top)?))).collect()
 }
 
@@ -102,11 +102,11 @@ fn stale(top: &Path, made: &Files) -> Result<Vec<PathBuf>, String> {
     Ok(there)
 }
 
-/// Returns each file that is made of some sources. Its first line says what it is made of.
-fn files_of_sources(repository: &Repository, is_source: impl Fn(&Source) -> bool) -> Result<Files, String> {
+/// Returns each file that these recipes make. Its first line says what it is made of.
+fn files_of_recipes(repository: &Repository, is_asked: impl Fn(&Recipe) -> bool) -> Result<Files, String> {
     let mut files = Files::new();
-    for file in repository.files.iter().filter(|file| is_source(file.source)) {
-        if let Some(path) = file.source.path_of_made(&file.path) {
+    for file in repository.files.iter().filter(|file| is_asked(file.recipe)) {
+        if let Some(path) = file.recipe.path_of_made(&file.path) {
             let from = file.path_in_repository().display().to_string();
             let code = translated(file, repository).map_err(|what| format!("{from}:{what}"))?;
             files.insert(path, format!("{MADE}{from}. Edit that file, not this one.\n\n{code}"));
@@ -118,11 +118,11 @@ fn files_of_sources(repository: &Repository, is_source: impl Fn(&Source) -> bool
 /// Returns the code that is made of a file, to whose tokens the rules are applied. An error begins with the line.
 fn translated(file: &File, Repository { laws, .. }: &Repository) -> Result<String, String> {
     let mut code = file.tokens.clone();
-    left_out::without_items(&mut code, &file.source.names_of_modules_left_out(), laws);
+    left_out::without_items(&mut code, &file.recipe.names_of_modules_left_out(), laws);
     counters::without_statements(&mut code, laws);
     counters::without_elements(&mut code);
     counters::without_counted(&mut code);
-    if file.source.is_documented() {
+    if file.recipe.is_documented() {
         checks::check_documentation(&code)?;
     }
     additions::add(&mut code, file);

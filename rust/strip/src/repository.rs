@@ -3,8 +3,8 @@
 use crate::files::{files_of, read};
 use crate::items::{declared_names, functions};
 use crate::laws::{Names, effect};
+use crate::recipe::Recipe;
 use crate::rules::{Rule, lex_and_apply};
-use crate::source::Source;
 use crate::tokens::Token;
 use std::path::{Path, PathBuf};
 
@@ -18,8 +18,8 @@ pub(crate) struct Repository {
 
 /// One file of a crate, as the steps of this program take it.
 pub(crate) struct File {
-    /// What is known of its crate.
-    pub source: &'static Source,
+    /// What is made of its crate.
+    pub recipe: &'static Recipe,
     /// Its path in the folder `src` of the crate, such as `digits/write.rt`.
     pub path: String,
     /// Its text, after the rules of `replacements` have changed it.
@@ -28,14 +28,14 @@ pub(crate) struct File {
 
 impl Repository {
     /// Reads these crates of the repository in a folder, and applies these rules to them.
-    pub fn read(top: &Path, sources: &'static [Source], mut rules: Vec<Rule>) -> Result<Repository, String> {
+    pub fn read(top: &Path, recipes: &'static [Recipe], mut rules: Vec<Rule>) -> Result<Repository, String> {
         let mut repository = Repository::default();
-        for source in sources {
+        for recipe in recipes {
             let mut files = Vec::new();
-            for path in files_of(top, &source.folder_of_crate(), "rt")? {
-                files.push(File::read(top, source, &path, &mut rules)?);
+            for path in files_of(top, &recipe.folder_of_crate(), "rt")? {
+                files.push(File::read(top, recipe, &path, &mut rules)?);
             }
-            check_lists(source, &files)?;
+            check_lists(recipe, &files)?;
             repository.laws.extend(files.iter().flat_map(File::laws).cloned());
             repository.files.extend(files);
         }
@@ -46,25 +46,25 @@ impl Repository {
 }
 
 /// Returns an error if the lists of a crate name what its files do not have.
-fn check_lists(source: &Source, files: &[File]) -> Result<(), String> {
+fn check_lists(recipe: &Recipe, files: &[File]) -> Result<(), String> {
     let known: Names = files.iter().flat_map(File::names_for_lists).collect();
-    let unknown = source.listed_names().find(|name| !known.contains(*name));
-    unknown.map_or(Ok(()), |name| Err(format!("{}: it has no {name}", source.name)))
+    let unknown = recipe.listed_names().find(|name| !known.contains(*name));
+    unknown.map_or(Ok(()), |name| Err(format!("{}: it has no {name}", recipe.name)))
 }
 
 impl File {
     /// Reads a file at a path in the repository, and applies these rules to it.
-    fn read(top: &Path, source: &'static Source, path: &Path, rules: &mut [Rule]) -> Result<File, String> {
-        let in_crate = path.strip_prefix(source.folder_of_crate()).unwrap_or(path).to_string_lossy().into_owned();
-        let place = [source.package, source.name, &format!("{}/{in_crate}", source.name)];
+    fn read(top: &Path, recipe: &'static Recipe, path: &Path, rules: &mut [Rule]) -> Result<File, String> {
+        let in_crate = path.strip_prefix(recipe.folder_of_crate()).unwrap_or(path).to_string_lossy().into_owned();
+        let place = [recipe.package, recipe.name, &format!("{}/{in_crate}", recipe.name)];
         let tokens = lex_and_apply(&read(&top.join(path))?, place, rules);
         let tokens = tokens.map_err(|what| format!("{}:{what}", path.display()))?;
-        let file = File { source, path: in_crate, tokens };
+        let file = File { recipe, path: in_crate, tokens };
         file.check_laws().map(|()| file)
     }
 
     pub fn path_in_repository(&self) -> PathBuf {
-        self.source.folder_of_crate().join(&self.path)
+        self.recipe.folder_of_crate().join(&self.path)
     }
 
     /// Returns what a list can name: the file, its module, and what it declares, as `NAME` and as `FILE:NAME`.
@@ -77,14 +77,14 @@ impl File {
 
     /// Returns the names of its functions and constants that are left out as laws.
     fn laws(&self) -> impl Iterator<Item = &String> {
-        declared_names(&self.tokens).filter(|name| self.source.is_law(name, &self.path))
+        declared_names(&self.tokens).filter(|name| self.recipe.is_law(name, &self.path))
     }
 
     /// Returns an error if a function that is listed as a law does more than a law, because that would be lost.
     fn check_laws(&self) -> Result<(), String> {
         for function in functions(&self.tokens) {
             let (name, line) = (function.name(&self.tokens), self.tokens[function.at].line);
-            let effect = effect(&self.tokens, &function).filter(|_| self.source.is_law(name, &self.path));
+            let effect = effect(&self.tokens, &function).filter(|_| self.recipe.is_law(name, &self.path));
             if let Some(effect) = effect {
                 let path = self.path_in_repository();
                 return Err(format!("{}:{line}: {name} is listed as a law, and {effect}", path.display()));
@@ -95,7 +95,7 @@ impl File {
 
     /// Returns an error if it declares the name of a law for something else, whose calls would be left out too.
     fn check_names(&self, laws: &Names) -> Result<(), String> {
-        let is_other = |name: &&String| laws.contains(*name) && !self.source.is_law(name, &self.path);
+        let is_other = |name: &&String| laws.contains(*name) && !self.recipe.is_law(name, &self.path);
         let other = declared_names(&self.tokens).find(is_other);
         let path = self.path_in_repository();
         other.map_or(Ok(()), |name| Err(format!("{}: {name} is also the name of a law", path.display())))

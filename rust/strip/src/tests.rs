@@ -1,26 +1,26 @@
 //! Small sources, and what becomes of each. The made files, which the gate compares, show the rest.
 
-use crate::crates::SOURCES;
+use crate::crates::RECIPES;
+use crate::recipe::Recipe;
 use crate::repository::{File, Repository};
 use crate::rules::{Rule, lex_and_apply};
-use crate::source::Source;
 use crate::tokens::{lex, print, words};
 use crate::{Files, MADE, files, stale, translated};
 use std::path::{Path, PathBuf};
 use std::{env, fs, process, slice};
 
-/// Returns what is known of a crate.
-fn source(name: &str) -> &'static Source {
-    SOURCES.iter().find(|source| source.name == name).unwrap()
+/// Returns the recipe of a crate.
+fn recipe(name: &str) -> &'static Recipe {
+    RECIPES.iter().find(|recipe| recipe.name == name).unwrap()
 }
 
 /// Returns what is made of a file of `lexical_write_integer`, in which `in_range`, `fits_bits` and `DECIMAL` are laws.
 fn made(text: &str) -> Result<String, String> {
-    let source = source("lexical_write_integer");
+    let recipe = recipe("lexical_write_integer");
     let mut repository = Repository::default();
     repository.laws.extend(["in_range", "fits_bits", "DECIMAL"].map(str::to_owned));
-    let tokens = lex_and_apply(text, [source.package, source.name, "lexical_write_integer/a.rt"], &mut Rule::all())?;
-    translated(&File { source, path: "a.rt".to_owned(), tokens }, &repository)
+    let tokens = lex_and_apply(text, [recipe.package, recipe.name, "lexical_write_integer/a.rt"], &mut Rule::all())?;
+    translated(&File { recipe, path: "a.rt".to_owned(), tokens }, &repository)
 }
 
 /// Returns the tokens of a text without its comments.
@@ -108,9 +108,9 @@ fn folder_with(name: &str, texts: &[(&str, &str)]) -> PathBuf {
 /// Otherwise what such a law does would be lost, or a call of its namesake.
 #[test]
 fn a_law_that_does_more_or_has_a_namesake_is_refused() {
-    let tables = *source("lexical_tables");
-    let sources = [Source { name: "a", laws: "law", ..tables }, Source { name: "b", ..tables }];
-    let sources: &[Source] = Box::leak(Box::new(sources));
+    let tables = *recipe("lexical_tables");
+    let recipes = [Recipe { name: "a", laws: "law", ..tables }, Recipe { name: "b", ..tables }];
+    let recipes: &[Recipe] = Box::leak(Box::new(recipes));
     for (number, (a, b, error)) in [
         ("fn law() -> u8 { 1 }", "", "crates/a/src/lib.rt:1: law is listed as a law, and returns something"),
         ("fn law() { prove!(a) }", "", "crates/a/src/lib.rt:1: law is listed as a law, and asserts something"),
@@ -122,7 +122,7 @@ fn a_law_that_does_more_or_has_a_namesake_is_refused() {
     {
         let texts = [("crates/a/src/lib.rt", a), ("crates/b/src/lib.rt", b)];
         let folder = folder_with(&format!("law-{number}"), &texts);
-        assert_eq!(Repository::read(&folder, sources, Vec::new()).err().unwrap(), error);
+        assert_eq!(Repository::read(&folder, recipes, Vec::new()).err().unwrap(), error);
         fs::remove_dir_all(folder).unwrap();
     }
 }
@@ -251,25 +251,25 @@ fn top() -> &'static Path {
 
 #[test]
 fn a_rule_or_a_name_of_a_list_that_is_for_nothing_is_refused() {
-    let error = |sources, rules| Repository::read(top(), sources, rules).err().unwrap();
-    let tables = source("lexical_tables");
+    let error = |recipes, rules| Repository::read(top(), recipes, rules).err().unwrap();
+    let tables = recipe("lexical_tables");
     let rules = vec![Rule::new("lexical_tables", "gone", "")];
     assert_eq!(error(slice::from_ref(tables), rules), "lexical_tables: the rule for `gone` matches nothing");
-    let other = Box::leak(Box::new([Source { laws: "gone", ..*tables }]));
+    let other = Box::leak(Box::new([Recipe { laws: "gone", ..*tables }]));
     assert_eq!(error(other, Vec::new()), "lexical_tables: it has no gone");
 }
 
 /// Here each comment and each layout of the crates is another one, and what is made of the code is the same.
 #[test]
 fn no_comment_and_no_layout_of_a_source_decides() {
-    let (repository, mut rules) = (Repository::read(top(), SOURCES, Rule::all()).unwrap(), Rule::all());
-    for file in repository.files.iter().filter(|file| file.source.path_of_made(&file.path).is_some()) {
+    let (repository, mut rules) = (Repository::read(top(), RECIPES, Rule::all()).unwrap(), Rule::all());
+    for file in repository.files.iter().filter(|file| file.recipe.path_of_made(&file.path).is_some()) {
         let mut other = lex(&files::read(&top().join(file.path_in_repository())).unwrap()).unwrap();
         for (at, token) in other.iter_mut().enumerate() {
             token.before = if at % 5 == 0 { "\n// ghost requires { #[cold]\n" } else { "\n" }.to_owned();
             token.after.clear();
         }
-        let place = [file.source.package, file.source.name, &format!("{}/{}", file.source.name, file.path)];
+        let place = [file.recipe.package, file.recipe.name, &format!("{}/{}", file.recipe.name, file.path)];
         let tokens = lex_and_apply(&print(&other), place, &mut rules).unwrap();
         let other = File { path: file.path.clone(), tokens, ..*file };
         let made = |file| code(&translated(file, &repository).unwrap());

@@ -1,4 +1,4 @@
-//! What is made of a crate: the description of one, which `crates` has of each.
+//! A recipe says what is made of a crate. `crates` has the recipe of each one.
 
 use std::path::{Path, PathBuf};
 
@@ -8,7 +8,7 @@ type List = &'static str;
 /// A crate of Rattle, and the files that are made of it. Each path of a file or a module is one in the folder `src` of
 /// the crate. It is an error if the crate has nothing of a listed name.
 #[derive(Clone, Copy)]
-pub(crate) struct Source {
+pub(crate) struct Recipe {
     /// The name of the crate.
     pub name: &'static str,
     /// The package that the made files are of.
@@ -41,7 +41,7 @@ pub(crate) struct Attributes {
     pub files: List,
 }
 
-impl Source {
+impl Recipe {
     /// Returns the folder of its sources.
     pub fn folder_of_crate(&self) -> PathBuf {
         Path::new("crates").join(self.name).join("src")
