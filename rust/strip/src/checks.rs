@@ -1,7 +1,7 @@
 //! What is refused in the code that is made: what only Rattle has, laws that are not listed, and conditions of which
 //! the documentation says nothing.
 
-use crate::crates::COUNTERS;
+use crate::counters::COUNTERS;
 use crate::items::{Function, functions};
 use crate::laws::{Names, effect};
 use crate::tokens::{Token, words};

@@ -1,7 +1,7 @@
 //! Leaves out counters, and calls of laws.
 //!
 //! A counter is a parameter, a variable or a field in which a function records what it does, for example each turn of a
-//! loop. Only contracts read it, so no result depends on it. Its name and its type are in the list `COUNTERS`. A law is
+//! loop. Only contracts read it, so no result depends on it. `COUNTERS` has its name and its type. A law is
 //! a function that only proves something. What else names a counter or calls a law stays, and `checks` refuses it.
 //!
 //! These are the rules, in their order, with what each leaves out and what it makes of an example:
@@ -13,11 +13,13 @@
 //! 3. `without_counted`: the ending of names as `f_counted`, and a function `f` that only called it:
 //!    `fn f(n: u8) { f_counted(n) } fn f_counted(n: u8) { n }` becomes `fn f(n: u8) { n }`.
 
-use crate::crates::COUNTERS;
 use crate::items::{Function, elements, functions, remove, remove_and_keep_comment, remove_element};
 use crate::laws::{Names, is_for_proofs};
 use crate::tokens::{Token, find, opening, words};
 use std::ops::Range;
+
+/// The types of counters, and the names that all variables, parameters and fields of these types have.
+pub(crate) const COUNTERS: [&str; 5] = ["Turns", "Trace", "turns", "loop_turns", "trace"];
 
 /// The ending of the name of a function with a counter.
 const COUNTED: &str = "_counted";

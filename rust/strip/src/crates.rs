@@ -1,6 +1,9 @@
-//! The crates, what is made of each, and the names that the steps need to know.
+//! The crates, what is made of each, and the names in them that the steps need to know.
 
-use crate::recipe::{Attributes, Recipe};
+use crate::attributes::{
+    ALWAYS, ALWAYS_TRACKED, Attributes, NEVER, NO_INTEGER, NO_PART, NO_SHOW, NONE, NOT_UNSIGNED, TRACKED,
+};
+use crate::recipe::Recipe;
 
 /// What the crates of the library are made into.
 const LIBRARY: Recipe = Recipe {
@@ -19,38 +22,6 @@ const PROGRAM: Recipe = Recipe { package: "lexwrite", ..LIBRARY };
 
 /// What the crates that only test are made into.
 const TESTS: Recipe = Recipe { package: "repository_tests", ..LIBRARY };
-
-/// Attributes that nothing has.
-const NONE: Attributes = Attributes { lines: "", types: "", functions: "", files: "" };
-
-/// For functions that must be in the code of a caller.
-const ALWAYS: Attributes = Attributes { lines: "#[inline(always)]", ..NONE };
-
-/// For functions whose panics name the line of a caller.
-const TRACKED: Attributes = Attributes { lines: "#[inline]\n#[track_caller]", ..NONE };
-
-/// For functions that must be in the code of a caller, and whose panics name its line.
-const ALWAYS_TRACKED: Attributes = Attributes { lines: "#[inline(always)]\n#[track_caller]", ..NONE };
-
-/// For functions that a caller calls, so their code is there once.
-const NEVER: Attributes = Attributes { lines: "#[inline(never)]", ..NONE };
-
-/// What rustc says of a type that does not implement a trait. Rattle does not know such attributes.
-const NO_INTEGER: &str = r#"#[diagnostic::on_unimplemented(
-message = "`{Self}` is not an integer type that this crate writes",
-note = "it writes `u8` to `u64`, `usize`, `i8` to `i64` and `isize`; `Displayed(&value)` writes what has `Display`")]"#;
-const NOT_UNSIGNED: &str = r#"#[diagnostic::on_unimplemented(
-message = "`{Self}` is not an unsigned integer type that this crate writes",
-note = "a literal needs a type, such as `255u8`; a signed number in a radix is written by `Formatted`, and one of \
-    128 bits by `Displayed`")]"#;
-const NO_PART: &str = r#"#[diagnostic::on_unimplemented(
-message = "`{Self}` is not a part",
-note = "a value with `Display` is a part as `Displayed(&value)`; a tuple has 2 to 12 members; \
-    references to a `String` need the feature `alloc`")]"#;
-const NO_SHOW: &str = r#"#[diagnostic::on_unimplemented(
-message = "`{Self}` is not a part with `Show`",
-note = "a value with `Display` is a part as `Displayed(&value)`; implement `Show` for a part of your own; \
-    a tuple has 2 to 12 members")]"#;
 
 /// The crates of which files are made.
 pub(crate) const RECIPES: &[Recipe] = &[
@@ -181,10 +152,3 @@ pub(crate) const RECIPES: &[Recipe] = &[
     },
     Recipe { name: "tests", ..TESTS },
 ];
-
-/// The types of counters, and the names that all variables, parameters and fields of these types have.
-pub(crate) const COUNTERS: [&str; 5] = ["Turns", "Trace", "turns", "loop_turns", "trace"];
-
-/// The functions that the arguments of laws call. They change nothing, so they are left out with the call of the law.
-pub(crate) const WITHOUT_EFFECT: [&str; 6] =
-    ["as_bytes", "as_u64", "exponent_radix", "from", "from_radix", "mantissa_radix"];

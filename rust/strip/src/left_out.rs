@@ -1,7 +1,7 @@
 //! Leaves out items that only Rattle reads: what is marked as ghost, tactics, models, laws, and modules of them; then
 //! contracts, and imports of what is gone.
 
-use crate::crates::COUNTERS;
+use crate::counters::COUNTERS;
 use crate::items::{
     function, functions, remove, remove_and_keep_comment, remove_element, start, start_with_attributes,
 };

@@ -12,13 +12,14 @@
 //! 6. `checks` refuses each word of Rattle that is left, and a function whose documentation says nothing of what it
 //!    requires.
 //!
-//! `crates` lists the crates, what is made of each, and the names that the steps need to know, such as those of laws;
-//! `recipe` says what each list is. What no step knows is an error with the file and the line. A rule or a listed name
-//! that is for nothing is an error too.
+//! `crates` has a `recipe` for each crate: what is made of it, and the names that the steps need to know, such as those
+//! of laws. `attributes` has what step 4 writes. What no step knows is an error with the file and the line. A rule or a
+//! listed name that is for nothing is an error too.
 
 #![forbid(unsafe_code)]
 
 mod additions;
+mod attributes;
 mod checks;
 mod counters;
 mod crates;

@@ -1,9 +1,10 @@
 //! A recipe says what is made of a crate. `crates` has the recipe of each one.
 
+use crate::attributes::Attributes;
 use std::path::{Path, PathBuf};
 
-/// Names or paths, with white space between them.
-type List = &'static str;
+/// Names or paths, with white space between them. rustfmt would give each member of a slice a line of its own.
+pub(crate) type List = &'static str;
 
 /// A crate of Rattle, and the files that are made of it. Each path of a file or a module is one in the folder `src` of
 /// the crate. It is an error if the crate has nothing of a listed name.
@@ -29,18 +30,6 @@ pub(crate) struct Recipe {
     pub constants_left_out: List,
 }
 
-/// Attributes, and what has them. rustc checks that they are right.
-pub(crate) struct Attributes {
-    /// One or more lines. They take the place of the `#[inline]` that a function has otherwise.
-    pub lines: &'static str,
-    /// Structs, enums and traits.
-    pub types: List,
-    /// Functions: `NAME` in any file, and `FILE:NAME` in one.
-    pub functions: List,
-    /// Files, all functions of which have them.
-    pub files: List,
-}
-
 impl Recipe {
     /// Returns the folder of its sources.
     pub fn folder_of_crate(&self) -> PathBuf {
@@ -64,16 +53,12 @@ impl Recipe {
 
     /// Returns the lines to add to a type, or `None` if no entry names it.
     pub fn attributes_of_type(&self, name: &str) -> Option<&'static str> {
-        self.attributes.iter().find(|entry| has(entry.types, name)).map(|entry| entry.lines)
+        self.attributes.iter().find(|entry| entry.are_for_type(name)).map(|entry| entry.lines)
     }
 
     /// Returns the lines to add to a function of a file, or `None` if no entry names it.
     pub fn attributes_of_function(&self, name: &str, file: &str) -> Option<&'static str> {
-        let in_file = format!("{file}:{name}");
-        let names = |entry: &&Attributes| {
-            has(entry.functions, name) || has(entry.functions, &in_file) || has(entry.files, file)
-        };
-        self.attributes.iter().find(names).map(|entry| entry.lines)
+        self.attributes.iter().find(|entry| entry.are_for_function(name, file)).map(|entry| entry.lines)
     }
 
     /// Returns the names of the modules of which nothing is made, without what is before them in their paths.
@@ -115,6 +100,6 @@ fn is_of_module(file: &str, modules: List) -> bool {
 }
 
 /// Returns whether a list has the name.
-fn has(list: List, name: &str) -> bool {
+pub(crate) fn has(list: List, name: &str) -> bool {
     list.split_whitespace().any(|listed| listed == name)
 }
