@@ -1,12 +1,12 @@
 //! Adds attributes of functions and types. Without `#[inline]` rustc would inline few functions of a package into
 //! another one.
 
-use crate::items::{Function, functions, start};
+use crate::items::{Function, functions, start_of_item};
 use crate::repository::File;
 use crate::tokens::{Token, closing, words};
 
 /// Adds them to all functions and types of a file.
-pub(crate) fn add(tokens: &mut [Token], file: &File) {
+pub(crate) fn add_attributes(tokens: &mut [Token], file: &File) {
     for function in functions(tokens) {
         let mut lines = inlining(tokens, &function, file).to_owned();
         if file.recipe.is_documented() && function.is_for_users(tokens) && must_be_used(tokens, &function) {
@@ -17,7 +17,7 @@ pub(crate) fn add(tokens: &mut [Token], file: &File) {
     for at in 0..tokens.len() {
         if tokens[at].is_in(&["struct", "enum", "trait"]) {
             let attributes = file.recipe.attributes_of_type(&tokens[at + 1].text).unwrap_or_default();
-            let first = start(tokens, at);
+            let first = start_of_item(tokens, at);
             insert_lines(&mut tokens[first], attributes);
         }
     }

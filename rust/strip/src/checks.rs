@@ -2,8 +2,8 @@
 //! the documentation says nothing.
 
 use crate::counters::COUNTERS;
-use crate::items::{Function, functions};
-use crate::laws::{Names, effect};
+use crate::items::{Function, Names, functions};
+use crate::laws::effect;
 use crate::tokens::{Token, words};
 
 /// What only Rattle has.
@@ -11,7 +11,7 @@ const OF_RATTLE: [&str; 7] = ["requires", "ensures", "tactic", "prove", "final",
 
 /// Returns an error if code has what only Rattle has, such as a ghost or a call of a law, or a function that does
 /// nothing, because that is a law.
-pub(crate) fn check_rust(tokens: &[Token], laws: &Names) -> Result<(), String> {
+pub(crate) fn check_that_nothing_of_rattle_is_left(tokens: &[Token], laws: &Names) -> Result<(), String> {
     let is_empty = |each: &Function| tokens[each.body] == "{" && each.inside(tokens).is_empty();
     if let Some(law) = functions(tokens).iter().find(|each| is_empty(each) && effect(tokens, each).is_none()) {
         let line = tokens[law.at].line;
@@ -31,7 +31,7 @@ pub(crate) fn check_rust(tokens: &[Token], laws: &Names) -> Result<(), String> {
 
 /// Returns an error if a function for users requires something, and no section of its documentation says what becomes
 /// of a call without it. In Rattle no such call compiles. What is hidden has no documentation.
-pub(crate) fn check_documentation(tokens: &[Token]) -> Result<(), String> {
+pub(crate) fn check_that_conditions_are_documented(tokens: &[Token]) -> Result<(), String> {
     let requires = |each: &Function| each.clauses.iter().any(|clause| tokens[clause.start] == "requires");
     for function in functions(tokens).iter().filter(|each| requires(each) && each.is_for_users(tokens)) {
         let head = &tokens[function.first..function.visibility];

@@ -6,15 +6,17 @@
 //!
 //! These are the rules, in their order, with what each leaves out and what it makes of an example:
 //!
-//! 1. `without_statements`: statements that only record in a counter or only call a law, and then
+//! 1. `leave_out_statements`: statements that only record in a counter or only call a law, and then
 //!    - each `if` around them that is now empty: `if n > 0 { turns.tick(n); } n` becomes `n`;
 //!    - a variable that is then only returned: `let half = n / 2; turns.tick(half); half }` becomes `n / 2 }`.
-//! 2. `without_elements`: parameters, arguments and fields that are counters: `f(n, &mut Turns::new())` becomes `f(n)`.
-//! 3. `without_counted`: the ending of names as `f_counted`, and a function `f` that only called it:
+//! 2. `leave_out_elements`: parameters, arguments and fields that are counters. `f(n, &mut Turns::new())` is then `f(n)`.
+//! 3. `merge_counted`: the ending of names as `f_counted`, and a function `f` that only called it:
 //!    `fn f(n: u8) { f_counted(n) } fn f_counted(n: u8) { n }` becomes `fn f(n: u8) { n }`.
 
-use crate::items::{Function, elements, functions, remove, remove_and_keep_comment, remove_element};
-use crate::laws::{Names, is_for_proofs};
+use crate::items::{
+    Function, Names, elements, functions, remove_and_keep_comment, remove_element, remove_with_comment,
+};
+use crate::laws::is_for_proofs;
 use crate::tokens::{Token, find, opening, words};
 use std::ops::Range;
 
@@ -26,15 +28,15 @@ const COUNTED: &str = "_counted";
 
 /// Leaves out the statements of a file that only call a law or record in a counter, and what is then empty or unused
 /// around them.
-pub(crate) fn without_statements(tokens: &mut Vec<Token>, laws: &Names) {
+pub(crate) fn leave_out_statements(tokens: &mut Vec<Token>, laws: &Names) {
     // From the last one: so the places of the others stay as they are.
     for end in (1..tokens.len()).rev() {
         if tokens.get(end).is_some_and(|token| *token == ";") {
             let start = start_of_statement(tokens, end);
             if is_for_proofs(&tokens[start..end], laws) {
-                remove(tokens, start..end + 1);
-                let place = without_empty_ifs(tokens, start);
-                without_binding(tokens, place);
+                remove_with_comment(tokens, start..end + 1);
+                let place = leave_out_empty_ifs(tokens, start);
+                leave_out_binding(tokens, place);
             }
         }
     }
@@ -49,10 +51,10 @@ fn start_of_statement(tokens: &[Token], mut at: usize) -> usize {
 }
 
 /// Leaves out each empty `if` around the place of a statement, from the inside. Returns the place that they leave.
-fn without_empty_ifs(tokens: &mut Vec<Token>, mut at: usize) -> usize {
+fn leave_out_empty_ifs(tokens: &mut Vec<Token>, mut at: usize) -> usize {
     while let Some(empty) = empty_if(tokens, at) {
         at = empty.start;
-        remove(tokens, empty);
+        remove_with_comment(tokens, empty);
     }
     at
 }
@@ -65,9 +67,9 @@ fn empty_if(tokens: &[Token], at: usize) -> Option<Range<usize>> {
 }
 
 /// Makes `VALUE }` of `let NAME = VALUE; NAME }`, if the last `NAME` is at an index.
-fn without_binding(tokens: &mut Vec<Token>, at: usize) {
+fn leave_out_binding(tokens: &mut Vec<Token>, at: usize) {
     if let Some(start) = start_of_binding(tokens, at) {
-        remove(tokens, at - 1..at + 1);
+        remove_with_comment(tokens, at - 1..at + 1);
         remove_and_keep_comment(tokens, start..start + 3);
     }
 }
@@ -83,7 +85,7 @@ fn start_of_binding(tokens: &[Token], at: usize) -> Option<usize> {
 }
 
 /// Leaves out the parameters, arguments and fields of a file that are counters.
-pub(crate) fn without_elements(tokens: &mut Vec<Token>) {
+pub(crate) fn leave_out_elements(tokens: &mut Vec<Token>) {
     for open in (0..tokens.len()).rev() {
         if tokens[open].is_in(&["(", "{"]) {
             for element in elements(tokens, open).into_iter().rev() {
@@ -104,7 +106,7 @@ fn is_counter(element: &[Token]) -> bool {
 
 /// Gives each function `NAME_counted`, whose counter is left out, the name `NAME`. If there is a function `NAME` that
 /// does nothing but to call it, one function is made of the two.
-pub(crate) fn without_counted(tokens: &mut Vec<Token>) {
+pub(crate) fn merge_counted(tokens: &mut Vec<Token>) {
     let plain_name = |each: &Function| each.name(tokens).strip_suffix(COUNTED).map(str::to_owned);
     let names: Names = functions(tokens).iter().filter_map(plain_name).collect();
     for token in tokens.iter_mut().filter(|token| token.is_word() && token.text.ends_with(COUNTED)) {
@@ -134,9 +136,9 @@ fn make_one(tokens: &mut Vec<Token>, caller: &Function, called: &Function) {
     // What is later in the file comes first: so the place of the other stays as it is.
     if whole.start < place.start {
         tokens.splice(place, body);
-        remove(tokens, whole);
+        remove_with_comment(tokens, whole);
     } else {
-        remove(tokens, whole);
+        remove_with_comment(tokens, whole);
         tokens.splice(place, body);
     }
 }

@@ -32,7 +32,7 @@ pub(crate) fn write(file: &Path, text: &str) -> Result<(), String> {
     fs::create_dir_all(folder).and_then(|()| fs::write(file, text)).map_err(|error| message(file, error))
 }
 
-pub(crate) fn remove(path: &Path) -> Result<(), String> {
+pub(crate) fn remove_file(path: &Path) -> Result<(), String> {
     fs::remove_file(path).map_err(|error| message(path, error))
 }
 

@@ -1,7 +1,11 @@
 //! Finds the items of a source by their first words and their brackets, and removes tokens.
 
 use crate::tokens::{Token, closing, find, opening};
+use std::collections::BTreeSet;
 use std::ops::Range;
+
+/// Names of items or variables.
+pub(crate) type Names = BTreeSet<String>;
 
 /// Where the parts of a function are, as indices of tokens.
 pub(crate) struct Function {
@@ -67,7 +71,7 @@ pub(crate) fn function(tokens: &[Token], at: usize) -> Option<Function> {
         clauses.push(body..end);
         body = end;
     }
-    let (first, visibility) = (start_with_attributes(tokens, at), start(tokens, at));
+    let (first, visibility) = (start_with_attributes(tokens, at), start_of_item(tokens, at));
     Some(Function { first, visibility, at, parameters, clauses, body })
 }
 
@@ -96,7 +100,7 @@ pub(crate) fn after_type_arguments(tokens: &[Token], at: usize) -> usize {
 }
 
 /// Returns the index of the first token of the item whose word is at an index, after its attributes.
-pub(crate) fn start(tokens: &[Token], mut at: usize) -> usize {
+pub(crate) fn start_of_item(tokens: &[Token], mut at: usize) -> usize {
     while at > 0 {
         at = match &*tokens[at - 1].text {
             "pub" | "final" | "const" | "unsafe" | "extern" | "\"C\"" => at - 1,
@@ -109,7 +113,7 @@ pub(crate) fn start(tokens: &[Token], mut at: usize) -> usize {
 
 /// Returns the index of the first token of the item whose word is at an index: of its documentation or its attributes.
 pub(crate) fn start_with_attributes(tokens: &[Token], at: usize) -> usize {
-    let mut at = start(tokens, at);
+    let mut at = start_of_item(tokens, at);
     while at > 0 {
         at = match &*tokens[at - 1].text {
             "]" if tokens[opening(tokens, at - 1) - 1] == "#" => opening(tokens, at - 1) - 1,
@@ -133,7 +137,7 @@ pub(crate) fn elements(tokens: &[Token], open: usize) -> Vec<Range<usize>> {
 
 /// Removes tokens with the comment directly before them, which speaks of them. A comment with an empty line after it
 /// stays.
-pub(crate) fn remove(tokens: &mut Vec<Token>, range: Range<usize>) {
+pub(crate) fn remove_with_comment(tokens: &mut Vec<Token>, range: Range<usize>) {
     let kept = tokens[range.start].before.rsplit_once("\n\n").map(|(kept, _)| format!("{kept}\n\n"));
     tokens.drain(range.clone());
     if let Some(kept) = kept {
@@ -157,5 +161,5 @@ pub(crate) fn remove_element(tokens: &mut Vec<Token>, element: Range<usize>) {
     let is_before_comma = tokens[element.end] == ",";
     let is_after_comma = tokens[element.start - 1] == ",";
     let start = element.start - usize::from(is_after_comma && !is_before_comma);
-    remove(tokens, start..element.end + usize::from(is_before_comma));
+    remove_with_comment(tokens, start..element.end + usize::from(is_before_comma));
 }

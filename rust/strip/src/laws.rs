@@ -1,13 +1,9 @@
 //! Laws, which are functions that only prove something, and statements that only call one or record in a counter.
 
 use crate::counters::COUNTERS;
-use crate::items::{Function, after_type_arguments, elements};
+use crate::items::{Function, Names, after_type_arguments, elements};
 use crate::tokens::{Token, opening, words};
-use std::collections::BTreeSet;
 use std::ops::Range;
-
-/// Names of functions or variables.
-pub(crate) type Names = BTreeSet<String>;
 
 /// The functions that the arguments of laws call. They change nothing, so they are left out with the call of the law.
 const WITHOUT_EFFECT: [&str; 6] = ["as_bytes", "as_u64", "exponent_radix", "from", "from_radix", "mantissa_radix"];

@@ -3,15 +3,15 @@
 
 use crate::counters::COUNTERS;
 use crate::items::{
-    function, functions, remove, remove_and_keep_comment, remove_element, start, start_with_attributes,
+    Names, function, functions, remove_and_keep_comment, remove_element, remove_with_comment, start_of_item,
+    start_with_attributes,
 };
-use crate::laws::Names;
 use crate::repository::File;
 use crate::tokens::{Token, closing, find, words};
 use std::ops::Range;
 
 /// Leaves out the items, with the modules of these names. Contracts stay until they have been read.
-pub(crate) fn without_items(tokens: &mut Vec<Token>, modules: &[&str], laws: &Names) {
+pub(crate) fn leave_out_items(tokens: &mut Vec<Token>, modules: &[&str], laws: &Names) {
     let mut at = 0;
     while at < tokens.len() {
         let is_attribute = tokens[at] == "#" && tokens[at + 1] == "[" && tokens[at + 2] == "tactic";
@@ -20,7 +20,7 @@ pub(crate) fn without_items(tokens: &mut Vec<Token>, modules: &[&str], laws: &Na
             remove_and_keep_comment(tokens, at..end);
         } else if let Some(item) = item_left_out(tokens, at, modules, laws) {
             at = item.start;
-            remove(tokens, item);
+            remove_with_comment(tokens, item);
         } else {
             at += 1;
         }
@@ -28,7 +28,7 @@ pub(crate) fn without_items(tokens: &mut Vec<Token>, modules: &[&str], laws: &Na
 }
 
 /// Leaves out the clauses of all functions.
-pub(crate) fn without_contracts(tokens: &mut Vec<Token>) {
+pub(crate) fn leave_out_contracts(tokens: &mut Vec<Token>) {
     // From the last one: so the places of the others stay as they are.
     let clauses: Vec<_> = functions(tokens).into_iter().flat_map(|function| function.clauses).collect();
     for clause in clauses.into_iter().rev() {
@@ -57,21 +57,21 @@ fn item_left_out(tokens: &[Token], at: usize, modules: &[&str], laws: &Names) ->
 }
 
 /// Leaves out imports of what is left out, and of what only that has named. Tests may import what they do not use.
-pub(crate) fn without_imports(tokens: &mut Vec<Token>, file: &File, laws: &Names) {
+pub(crate) fn leave_out_imports(tokens: &mut Vec<Token>, file: &File, laws: &Names) {
     let used = words_outside_imports(tokens);
     let used_before = if file.recipe.is_test() { Names::new() } else { words_outside_imports(&file.tokens) };
     let is_gone = |name: &str| name == "Model" || COUNTERS.contains(&name) || laws.contains(name);
     let is_unused = |name: &str| used_before.contains(name) && !used.contains(name);
     for at in (0..tokens.len()).rev().filter(|at| tokens[*at] == "use").collect::<Vec<_>>() {
-        let is_private = start(tokens, at) == at;
-        without_names(tokens, at, |name| is_gone(name) || is_private && is_unused(name));
-        without_brackets(tokens, at);
+        let is_private = start_of_item(tokens, at) == at;
+        leave_out_names(tokens, at, |name| is_gone(name) || is_private && is_unused(name));
+        tidy_import(tokens, at);
     }
 }
 
 /// Leaves out names of the import that begins at an index, and each that is there a second time, since
 /// `use a::{b, b_counted}` has become `use a::{b, b}`.
-fn without_names(tokens: &mut Vec<Token>, at: usize, is_left_out: impl Fn(&str) -> bool) {
+fn leave_out_names(tokens: &mut Vec<Token>, at: usize, is_left_out: impl Fn(&str) -> bool) {
     for name in (at..find(tokens, at, &[";"])).rev() {
         let text = &tokens[name].text;
         let is_name = tokens[name].is_word() && tokens[name + 1].is_in(&[",", "}", ";"]);
@@ -84,11 +84,11 @@ fn without_names(tokens: &mut Vec<Token>, at: usize, is_left_out: impl Fn(&str) 
 }
 
 /// Leaves out the import that begins at an index if it has no name, and its brackets if it has one.
-fn without_brackets(tokens: &mut Vec<Token>, at: usize) {
+fn tidy_import(tokens: &mut Vec<Token>, at: usize) {
     let end = find(tokens, at, &[";"]);
     let import = words(&tokens[at..end]);
     if import == "use" || import.ends_with("{ }") {
-        remove(tokens, start_with_attributes(tokens, at)..end + 1);
+        remove_with_comment(tokens, start_with_attributes(tokens, at)..end + 1);
     } else if import.ends_with(" }") && tokens[end - 3] == "{" && tokens[end - 2] != "self" {
         tokens.remove(end - 1);
         tokens.remove(end - 3);

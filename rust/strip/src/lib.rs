@@ -34,7 +34,7 @@ mod rules;
 mod tokens;
 
 use crates::RECIPES;
-use files::{files_of, laid_out, read, remove, without_layout, write};
+use files::{files_of, laid_out, read, remove_file, without_layout, write};
 use recipe::Recipe;
 use repository::{File, Repository};
 use rules::Rule;
@@ -50,7 +50,7 @@ const MADE: &str = "// Made by `strip` from ";
 /// Writes all made files of the repository in a folder, and removes those of sources that are gone.
 pub fn make(top: &Path) -> Result<(), String> {
     let files = committed_files(top)?;
-    stale(top, &files)?.iter().try_for_each(|path| remove(&top.join(path)))?;
+    stale(top, &files)?.iter().try_for_each(|path| remove_file(&top.join(path)))?;
     files.into_iter().try_for_each(|(path, text)| write(&top.join(path), &text))
 }
 
@@ -119,17 +119,17 @@ fn files_of_recipes(repository: &Repository, is_asked: impl Fn(&Recipe) -> bool)
 /// Returns the code that is made of a file, to whose tokens the rules are applied. An error begins with the line.
 fn translated(file: &File, Repository { laws, .. }: &Repository) -> Result<String, String> {
     let mut code = file.tokens.clone();
-    left_out::without_items(&mut code, &file.recipe.names_of_modules_left_out(), laws);
-    counters::without_statements(&mut code, laws);
-    counters::without_elements(&mut code);
-    counters::without_counted(&mut code);
+    left_out::leave_out_items(&mut code, &file.recipe.names_of_modules_left_out(), laws);
+    counters::leave_out_statements(&mut code, laws);
+    counters::leave_out_elements(&mut code);
+    counters::merge_counted(&mut code);
     if file.recipe.is_documented() {
-        checks::check_documentation(&code)?;
+        checks::check_that_conditions_are_documented(&code)?;
     }
-    additions::add(&mut code, file);
-    left_out::without_contracts(&mut code);
-    left_out::without_imports(&mut code, file, laws);
-    checks::check_rust(&code, laws)?;
+    additions::add_attributes(&mut code, file);
+    left_out::leave_out_contracts(&mut code);
+    left_out::leave_out_imports(&mut code, file, laws);
+    checks::check_that_nothing_of_rattle_is_left(&code, laws)?;
     Ok(tokens::print(&code).trim().to_owned() + "\n")
 }
 

@@ -1,8 +1,8 @@
 //! Reads the crates of the repository, and checks that each rule and each name of a list is for something in them.
 
 use crate::files::{files_of, read};
-use crate::items::{declared_names, functions};
-use crate::laws::{Names, effect};
+use crate::items::{Names, declared_names, functions};
+use crate::laws::effect;
 use crate::recipe::Recipe;
 use crate::rules::{Rule, lex_and_apply};
 use crate::tokens::Token;
@@ -35,18 +35,18 @@ impl Repository {
             for path in files_of(top, &recipe.folder_of_crate(), "rt")? {
                 files.push(File::read(top, recipe, &path, &mut rules)?);
             }
-            check_lists(recipe, &files)?;
+            check_that_listed_names_exist(recipe, &files)?;
             repository.laws.extend(files.iter().flat_map(File::laws).cloned());
             repository.files.extend(files);
         }
-        repository.files.iter().try_for_each(|file| file.check_names(&repository.laws))?;
+        repository.files.iter().try_for_each(|file| file.check_that_no_law_has_a_namesake(&repository.laws))?;
         let faults: Vec<String> = rules.iter().filter_map(Rule::fault).collect();
         if faults.is_empty() { Ok(repository) } else { Err(faults.join("\n")) }
     }
 }
 
 /// Returns an error if the lists of a crate name what its files do not have.
-fn check_lists(recipe: &Recipe, files: &[File]) -> Result<(), String> {
+fn check_that_listed_names_exist(recipe: &Recipe, files: &[File]) -> Result<(), String> {
     let known: Names = files.iter().flat_map(File::names_for_lists).collect();
     let unknown = recipe.listed_names().find(|name| !known.contains(*name));
     unknown.map_or(Ok(()), |name| Err(format!("{}: it has no {name}", recipe.name)))
@@ -60,7 +60,7 @@ impl File {
         let tokens = lex_and_apply(&read(&top.join(path))?, place, rules);
         let tokens = tokens.map_err(|what| format!("{}:{what}", path.display()))?;
         let file = File { recipe, path: in_crate, tokens };
-        file.check_laws().map(|()| file)
+        file.check_that_laws_only_prove().map(|()| file)
     }
 
     pub fn path_in_repository(&self) -> PathBuf {
@@ -81,7 +81,7 @@ impl File {
     }
 
     /// Returns an error if a function that is listed as a law does more than a law, because that would be lost.
-    fn check_laws(&self) -> Result<(), String> {
+    fn check_that_laws_only_prove(&self) -> Result<(), String> {
         for function in functions(&self.tokens) {
             let (name, line) = (function.name(&self.tokens), self.tokens[function.at].line);
             let effect = effect(&self.tokens, &function).filter(|_| self.recipe.is_law(name, &self.path));
@@ -94,7 +94,7 @@ impl File {
     }
 
     /// Returns an error if it declares the name of a law for something else, whose calls would be left out too.
-    fn check_names(&self, laws: &Names) -> Result<(), String> {
+    fn check_that_no_law_has_a_namesake(&self, laws: &Names) -> Result<(), String> {
         let is_other = |name: &&String| laws.contains(*name) && !self.recipe.is_law(name, &self.path);
         let other = declared_names(&self.tokens).find(is_other);
         let path = self.path_in_repository();
