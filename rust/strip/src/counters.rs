@@ -1,20 +1,11 @@
 //! Leaves out counters, and calls of laws.
 //!
 //! A counter is a parameter, a variable or a field in which a function records what it does, for example each turn of a
-//! loop. Only contracts read it, so no result depends on it. `COUNTERS` has its name and its type. A law is
-//! a function that only proves something. What else names a counter or calls a law stays, and `checks` refuses it.
-//!
-//! These are the rules, in their order, with what each leaves out and what it makes of an example:
-//!
-//! 1. `leave_out_statements`: statements that only record in a counter or only call a law, and then
-//!    - each `if` around them that is now empty: `if n > 0 { turns.tick(n); } n` becomes `n`;
-//!    - a variable that is then only returned: `let half = n / 2; turns.tick(half); half }` becomes `n / 2 }`.
-//! 2. `leave_out_elements`: parameters, arguments and fields that are counters. `f(n, &mut Turns::new())` is then `f(n)`.
-//! 3. `merge_counted`: the ending of names as `f_counted`, and a function `f` that only called it:
-//!    `fn f(n: u8) { f_counted(n) } fn f_counted(n: u8) { n }` becomes `fn f(n: u8) { n }`.
+//! loop. Only contracts read it, so no result depends on it. `COUNTERS` has its name and its type. A law is a function
+//! that only proves something. What else names a counter or calls a law stays, and `checks` refuses it.
 
 use crate::items::{
-    Function, Names, elements, functions, remove_and_keep_comment, remove_element, remove_with_comment,
+    Function, Names, elements, functions, remove_and_keep_comment, remove_each, remove_with_comment, with_comma,
 };
 use crate::laws::is_for_proofs;
 use crate::tokens::{Token, find, opening, words};
@@ -26,20 +17,23 @@ pub(crate) const COUNTERS: [&str; 5] = ["Turns", "Trace", "turns", "loop_turns",
 /// The ending of the name of a function with a counter.
 const COUNTED: &str = "_counted";
 
-/// Leaves out the statements of a file that only call a law or record in a counter, and what is then empty or unused
-/// around them.
-pub(crate) fn leave_out_statements(tokens: &mut Vec<Token>, laws: &Names) {
-    // From the last one: so the places of the others stay as they are.
-    for end in (1..tokens.len()).rev() {
-        if tokens.get(end).is_some_and(|token| *token == ";") {
-            let start = start_of_statement(tokens, end);
-            if is_for_proofs(&tokens[start..end], laws) {
-                remove_with_comment(tokens, start..end + 1);
-                let place = leave_out_empty_ifs(tokens, start);
-                leave_out_binding(tokens, place);
-            }
-        }
-    }
+/// Leaves out all counters and calls of laws of a file. Each step has its example above it.
+pub(crate) fn leave_out_counters(tokens: &mut Vec<Token>, laws: &Names) {
+    // `if n > 0 { turns.tick(n); } n` becomes `if n > 0 { } n`, and that becomes `n`.
+    remove_each(tokens, remove_with_comment, |tokens, at| statement_for_proofs(tokens, at, laws));
+    remove_each(tokens, remove_with_comment, empty_if);
+    // `let half = n / 2; turns.tick(half); half }` has become `let half = n / 2; half }`, and becomes `n / 2 }`.
+    leave_out_bindings(tokens);
+    // `f(n, &mut Turns::new())` becomes `f(n)`.
+    remove_each(tokens, remove_with_comment, counter);
+    // `fn f(n: u8) { f_counted(n) } fn f_counted(n: u8) { n }` becomes `fn f(n: u8) { n }`.
+    merge_counted(tokens);
+}
+
+/// Returns where the statement is whose `;` is at an index, if it only calls a law or records in a counter.
+fn statement_for_proofs(tokens: &[Token], at: usize, laws: &Names) -> Option<Range<usize>> {
+    let start = (tokens[at] == ";").then(|| start_of_statement(tokens, at))?;
+    is_for_proofs(&tokens[start..at], laws).then_some(start..at + 1)
 }
 
 /// Returns where the statement begins that ends at an index.
@@ -50,63 +44,49 @@ fn start_of_statement(tokens: &[Token], mut at: usize) -> usize {
     at
 }
 
-/// Leaves out each empty `if` around the place of a statement, from the inside. Returns the place that they leave.
-fn leave_out_empty_ifs(tokens: &mut Vec<Token>, mut at: usize) -> usize {
-    while let Some(empty) = empty_if(tokens, at) {
-        at = empty.start;
-        remove_with_comment(tokens, empty);
-    }
-    at
-}
-
-/// Returns where the `if` is whose empty brackets are around an index, if its condition calls nothing.
+/// Returns where the `if` is whose last bracket is at an index, if it is empty and its condition calls nothing.
 fn empty_if(tokens: &[Token], at: usize) -> Option<Range<usize>> {
-    let start = (tokens[at - 1] == "{" && tokens[at] == "}").then(|| start_of_statement(tokens, at - 1))?;
+    let start = (tokens[at] == "}" && tokens[at - 1] == "{").then(|| start_of_statement(tokens, at - 1))?;
     let head = words(&tokens[start..at - 1]);
     (head.starts_with("if ") && !head.contains('(') && tokens[at + 1] != "else").then_some(start..at + 1)
 }
 
-/// Makes `VALUE }` of `let NAME = VALUE; NAME }`, if the last `NAME` is at an index.
-fn leave_out_binding(tokens: &mut Vec<Token>, at: usize) {
-    if let Some(start) = start_of_binding(tokens, at) {
-        remove_with_comment(tokens, at - 1..at + 1);
-        remove_and_keep_comment(tokens, start..start + 3);
-    }
-}
-
-/// Returns where `let NAME = VALUE; NAME }` begins, if the last `NAME` is at an index.
-fn start_of_binding(tokens: &[Token], at: usize) -> Option<usize> {
-    if tokens[at - 1] != ";" || !tokens[at].is_word() || tokens[at + 1] != "}" {
-        return None;
-    }
-    let binding = format!("let {} =", tokens[at].text);
-    let is_binding = |start: &usize| words(&tokens[*start..*start + 3]) == binding;
-    (0..at - 2).rev().find(|start| is_binding(start) && find(tokens, *start, &[";"]) == at - 1)
-}
-
-/// Leaves out the parameters, arguments and fields of a file that are counters.
-pub(crate) fn leave_out_elements(tokens: &mut Vec<Token>) {
-    for open in (0..tokens.len()).rev() {
-        if tokens[open].is_in(&["(", "{"]) {
-            for element in elements(tokens, open).into_iter().rev() {
-                if is_counter(&tokens[element.clone()]) {
-                    remove_element(tokens, element);
-                }
-            }
+/// Leaves out each variable of a file that is only returned.
+fn leave_out_bindings(tokens: &mut Vec<Token>) {
+    let mut at = 0;
+    while at < tokens.len() {
+        if let Some(end) = end_of_binding(tokens, at) {
+            remove_with_comment(tokens, end..end + 2);
+            remove_and_keep_comment(tokens, at..at + 3);
         }
+        at += 1;
     }
+}
+
+/// Returns the index of the `;` of `let NAME = VALUE; NAME }`, if that begins at an index.
+fn end_of_binding(tokens: &[Token], at: usize) -> Option<usize> {
+    let end = (tokens[at] == "let" && tokens[at + 2] == "=").then(|| find(tokens, at, &[";"]))?;
+    (words(&tokens[end..end + 3]) == format!("; {} }}", tokens[at + 1].text)).then_some(end)
+}
+
+/// Returns where the parameter, argument or field is that begins at an index, with a comma, if it is a counter.
+fn counter(tokens: &[Token], at: usize) -> Option<Range<usize>> {
+    let element = (at > 0 && tokens[at - 1].is_in(&["(", "{", ","])).then(|| at..find(tokens, at, &[","]))?;
+    is_counter(&tokens[element.clone()]).then(|| with_comma(tokens, element))
 }
 
 /// Returns whether an element of a list is a counter: `turns`, `self.trace`, `&mut Turns::new()`, `turns: &mut Turns`.
 fn is_counter(element: &[Token]) -> bool {
-    let start = element.iter().position(|token| !token.is_in(&["pub", "&", "mut", "self", "."])).unwrap_or(0);
-    let rest = &element[start + 1..];
-    element[start].is_in(&COUNTERS) && (rest.is_empty() || rest[0] == ":" || words(rest) == ":: new ( )")
+    let name = element.iter().position(|token| !token.is_in(&["pub", "&", "mut", "self", "."]));
+    name.is_some_and(|at| {
+        let rest = words(&element[at + 1..]);
+        element[at].is_in(&COUNTERS) && (rest.is_empty() || rest.starts_with(": ") || rest == ":: new ( )")
+    })
 }
 
 /// Gives each function `NAME_counted`, whose counter is left out, the name `NAME`. If there is a function `NAME` that
 /// does nothing but to call it, one function is made of the two.
-pub(crate) fn merge_counted(tokens: &mut Vec<Token>) {
+fn merge_counted(tokens: &mut Vec<Token>) {
     let plain_name = |each: &Function| each.name(tokens).strip_suffix(COUNTED).map(str::to_owned);
     let names: Names = functions(tokens).iter().filter_map(plain_name).collect();
     for token in tokens.iter_mut().filter(|token| token.is_word() && token.text.ends_with(COUNTED)) {

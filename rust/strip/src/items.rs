@@ -156,10 +156,28 @@ pub(crate) fn remove_and_keep_comment(tokens: &mut Vec<Token>, range: Range<usiz
     }
 }
 
-/// Removes an element of a list, and a comma.
-pub(crate) fn remove_element(tokens: &mut Vec<Token>, element: Range<usize>) {
-    let is_before_comma = tokens[element.end] == ",";
-    let is_after_comma = tokens[element.start - 1] == ",";
-    let start = element.start - usize::from(is_after_comma && !is_before_comma);
-    remove_with_comment(tokens, start..element.end + usize::from(is_before_comma));
+/// Removes each range that is found for an index.
+pub(crate) fn remove_each(
+    tokens: &mut Vec<Token>,
+    remove: impl Fn(&mut Vec<Token>, Range<usize>),
+    range_at: impl Fn(&[Token], usize) -> Option<Range<usize>>,
+) {
+    let mut at = 0;
+    while at < tokens.len() {
+        if let Some(range) = range_at(tokens, at) {
+            at = range.start;
+            remove(tokens, range);
+        } else {
+            at += 1;
+        }
+    }
+}
+
+/// Returns where an element of a list is, with the comma that goes if the element goes.
+pub(crate) fn with_comma(tokens: &[Token], element: Range<usize>) -> Range<usize> {
+    if tokens[element.end] == "," {
+        element.start..element.end + 1
+    } else {
+        element.start - usize::from(tokens[element.start - 1] == ",")..element.end
+    }
 }

@@ -3,8 +3,8 @@
 
 use crate::counters::COUNTERS;
 use crate::items::{
-    Names, function, functions, remove_and_keep_comment, remove_element, remove_with_comment, start_of_item,
-    start_with_attributes,
+    Names, function, functions, remove_and_keep_comment, remove_each, remove_with_comment, start_of_item,
+    start_with_attributes, with_comma,
 };
 use crate::repository::File;
 use crate::tokens::{Token, closing, find, words};
@@ -12,19 +12,14 @@ use std::ops::Range;
 
 /// Leaves out the items, with the modules of these names. Contracts stay until they have been read.
 pub(crate) fn leave_out_items(tokens: &mut Vec<Token>, modules: &[&str], laws: &Names) {
-    let mut at = 0;
-    while at < tokens.len() {
-        let is_attribute = tokens[at] == "#" && tokens[at + 1] == "[" && tokens[at + 2] == "tactic";
-        if is_attribute {
-            let end = closing(tokens, at + 1) + 1;
-            remove_and_keep_comment(tokens, at..end);
-        } else if let Some(item) = item_left_out(tokens, at, modules, laws) {
-            at = item.start;
-            remove_with_comment(tokens, item);
-        } else {
-            at += 1;
-        }
-    }
+    remove_each(tokens, remove_with_comment, |tokens, at| item_left_out(tokens, at, modules, laws));
+    remove_each(tokens, remove_and_keep_comment, tactic);
+}
+
+/// Returns where the attribute `#[tactic(..)]` is that begins at an index.
+fn tactic(tokens: &[Token], at: usize) -> Option<Range<usize>> {
+    let is_tactic = tokens[at] == "#" && tokens[at + 1] == "[" && tokens[at + 2] == "tactic";
+    is_tactic.then(|| at..closing(tokens, at + 1) + 1)
 }
 
 /// Leaves out the clauses of all functions.
@@ -78,7 +73,8 @@ fn leave_out_names(tokens: &mut Vec<Token>, at: usize, is_left_out: impl Fn(&str
         let is_again = (at..name).any(|other| tokens[other].text == *text && tokens[other + 1] == ",");
         if is_name && (is_left_out(text) || is_again) {
             let before = (at..name).rev().find(|before| tokens[*before].is_in(&["{", ","]));
-            remove_element(tokens, before.unwrap_or(at) + 1..name + 1);
+            let name = with_comma(tokens, before.unwrap_or(at) + 1..name + 1);
+            remove_with_comment(tokens, name);
         }
     }
 }

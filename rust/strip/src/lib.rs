@@ -120,9 +120,7 @@ fn files_of_recipes(repository: &Repository, is_asked: impl Fn(&Recipe) -> bool)
 fn translated(file: &File, Repository { laws, .. }: &Repository) -> Result<String, String> {
     let mut code = file.tokens.clone();
     left_out::leave_out_items(&mut code, &file.recipe.names_of_modules_left_out(), laws);
-    counters::leave_out_statements(&mut code, laws);
-    counters::leave_out_elements(&mut code);
-    counters::merge_counted(&mut code);
+    counters::leave_out_counters(&mut code, laws);
     if file.recipe.is_documented() {
         checks::check_that_conditions_are_documented(&code)?;
     }

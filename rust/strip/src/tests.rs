@@ -174,7 +174,8 @@ fn counters_are_left_out() {
     becomes("fn f() -> S { S { a, trace: Trace::new() } }", "#[inline] fn f() -> S { S { a } }");
     body_becomes("turns.tick(1); self.trace.note(&a); b", "b");
     body_becomes("let a = b / 2; if a > 0 { turns.tick(a); } a", "b / 2");
-    body_becomes("g(1, turns, g(1, &mut Turns::new(), 3))", "g(1, g(1, 3))");
+    body_becomes("if a { if b { turns.tick(1); in_range(a); } } c", "c");
+    body_becomes("g(1, turns, g(1, &mut Turns::new(), 3), g(turns, trace))", "g(1, g(1, 3), g())");
     body_becomes("if c() { turns.tick(b); } a", "if c() { } a");
     body_becomes("if c { turns.tick(b); } else { d } a", "if c { } else { d } a");
 }
