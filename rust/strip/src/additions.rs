@@ -3,7 +3,7 @@
 
 use crate::items::{Function, functions, start_of_item};
 use crate::repository::File;
-use crate::tokens::{Token, closing, words};
+use crate::tokens::{Token, closing, has_mutable_reference, words};
 
 /// Adds them to all functions and types of a file.
 pub(crate) fn add_attributes(tokens: &mut [Token], file: &File) {
@@ -35,9 +35,8 @@ fn inlining(tokens: &[Token], function: &Function, file: &File) -> &'static str 
 /// Returns whether the result of a function is all that it is called for.
 fn must_be_used(tokens: &[Token], function: &Function) -> bool {
     let result = words(function.result(tokens));
-    let parameters = words(&tokens[function.parameters..closing(tokens, function.parameters)]);
-    let changes = parameters.contains("& mut") || parameters.contains("& 'a mut");
-    result.starts_with("->") && !result.contains("Result <") && !changes
+    let parameters = &tokens[function.parameters..closing(tokens, function.parameters)];
+    result.starts_with("->") && !result.contains("Result <") && !has_mutable_reference(parameters)
 }
 
 /// Inserts lines before a token, after the comments before it, and indents them as the token is.

@@ -2,8 +2,7 @@
 
 use crate::counters::COUNTERS;
 use crate::items::{Function, Names, after_type_arguments, elements};
-use crate::tokens::{Token, opening, words};
-use std::ops::Range;
+use crate::tokens::{Token, has_mutable_reference, opening, words};
 
 /// The functions that the arguments of laws call. They change nothing, so they are left out with the call of the law.
 const WITHOUT_EFFECT: [&str; 6] = ["as_bytes", "as_u64", "exponent_radix", "from", "from_radix", "mantissa_radix"];
@@ -13,13 +12,13 @@ const EFFECTS: [&str; 5] = ["?", "!", "=", "{", "return"];
 
 /// Returns what a function does that no law does, or `None`.
 pub(crate) fn effect(tokens: &[Token], function: &Function) -> Option<&'static str> {
-    let changes = |element: &Range<usize>| words(&tokens[element.clone()]).contains("& mut ");
-    let is_counter = |element: &Range<usize>| tokens[element.clone()].iter().any(|token| token.is_in(&COUNTERS));
+    let is_counter = |element: &[Token]| element.iter().any(|token| token.is_in(&COUNTERS));
+    let changes = |element: &[Token]| has_mutable_reference(element) && !is_counter(element);
     if !function.result(tokens).is_empty() {
         Some("returns something")
     } else if words(&tokens[function.inside(tokens)]).contains("prove !") {
         Some("asserts something")
-    } else if elements(tokens, function.parameters).iter().any(|each| changes(each) && !is_counter(each)) {
+    } else if elements(tokens, function.parameters).iter().any(|each| changes(&tokens[each.clone()])) {
         Some("changes something")
     } else {
         None

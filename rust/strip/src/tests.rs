@@ -115,6 +115,7 @@ fn a_law_that_does_more_or_has_a_namesake_is_refused() {
         ("fn law() -> u8 { 1 }", "", "crates/a/src/lib.rt:1: law is listed as a law, and returns something"),
         ("fn law() { prove!(a) }", "", "crates/a/src/lib.rt:1: law is listed as a law, and asserts something"),
         ("fn law(a: &mut u8) {}", "", "crates/a/src/lib.rt:1: law is listed as a law, and changes something"),
+        ("fn law<'b>(a: &'b mut u8) {}", "", "crates/a/src/lib.rt:1: law is listed as a law, and changes something"),
         ("fn law() {}", "fn law() { f() }", "crates/b/src/lib.rt: law is also the name of a law"),
     ]
     .into_iter()
@@ -220,6 +221,14 @@ fn examples_have_the_paths_of_a_user() {
     assert_eq!(made(text).unwrap(), example);
     let other = "/// ```text\n/// lexical_num::A\n/// ```\nstruct S;\n";
     assert_eq!(made(other).unwrap(), other);
+}
+
+#[test]
+fn only_a_result_that_is_all_must_be_used() {
+    becomes("pub fn f<'b>(a: &'b u8) -> &'b u8 { a }", "#[must_use] #[inline] pub fn f<'b>(a: &'b u8) -> &'b u8 { a }");
+    for head in ["f(a: &mut u8) -> u8", "f<'b>(a: &'b mut u8) -> u8", "f(a: u8) -> Result<u8, E>", "f(a: u8)"] {
+        becomes(&format!("pub fn {head} {{ a }}"), &format!("#[inline] pub fn {head} {{ a }}"));
+    }
 }
 
 #[test]

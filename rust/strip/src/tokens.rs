@@ -148,6 +148,11 @@ pub(crate) fn words(tokens: &[Token]) -> String {
     tokens.iter().map(|token| &*token.text).collect::<Vec<_>>().join(" ")
 }
 
+/// Returns whether tokens have `&mut` or `&'a mut`.
+pub(crate) fn has_mutable_reference(tokens: &[Token]) -> bool {
+    tokens.windows(2).any(|pair| pair[1] == "mut" && (pair[0] == "&" || pair[0].text.starts_with('\'')))
+}
+
 /// Returns the index of the bracket that closes the one at an index.
 pub(crate) fn closing(tokens: &[Token], open: usize) -> usize {
     let mut depth = 0;
