@@ -9,24 +9,22 @@ use crate::tokens::{Token, words};
 /// What only Rattle has.
 const OF_RATTLE: [&str; 7] = ["requires", "ensures", "tactic", "prove", "final", "Model", "Drop"];
 
-/// Returns an error if code has what only Rattle has, such as a ghost or a call of a law, or a function that does
-/// nothing, because that is a law.
+/// Returns an error if code has what only Rattle has, or a call of a law.
 pub(crate) fn check_that_nothing_of_rattle_is_left(tokens: &[Token], laws: &Names) -> Result<(), String> {
+    let is_call_of_law = |pair: &[Token]| laws.contains(&pair[0].text) && pair[1] == "(";
+    let is_left = |pair: &&[Token]| pair[0].is_in(&OF_RATTLE) || pair[0].is_in(&COUNTERS) || is_call_of_law(pair);
+    let found = tokens.windows(2).find(is_left);
+    found.map_or(Ok(()), |pair| Err(format!("{}: only Rattle has `{}`", pair[0].line, pair[0].text)))
+}
+
+/// Returns an error if a function does nothing, because that is a law.
+pub(crate) fn check_that_each_function_does_something(tokens: &[Token]) -> Result<(), String> {
     let is_empty = |each: &Function| tokens[each.body] == "{" && each.inside(tokens).is_empty();
-    if let Some(law) = functions(tokens).iter().find(|each| is_empty(each) && effect(tokens, each).is_none()) {
-        let line = tokens[law.at].line;
-        return Err(format!("{line}: {} does nothing: is it a law that `crates.rs` must list?", law.name(tokens)));
-    }
-    let is_literal = |text: &str| ["\"", "'", "b\"", "b'", "//"].iter().any(|start| text.starts_with(start));
-    let is_of_rattle = |pair: &&[Token]| {
-        let (token, is_call) = (&pair[0], pair[1] == "(");
-        let is_known = token.is_in(&OF_RATTLE) || token.is_in(&COUNTERS) || laws.contains(&token.text) && is_call;
-        is_known || !token.text.is_ascii() && !is_literal(&token.text)
-    };
-    match tokens.windows(2).find(is_of_rattle) {
-        Some(pair) => Err(format!("{}: only Rattle has `{}`", pair[0].line, pair[0].text)),
-        None => Ok(()),
-    }
+    let found = functions(tokens).into_iter().find(|each| is_empty(each) && effect(tokens, each).is_none());
+    found.map_or(Ok(()), |law| {
+        let (line, name) = (tokens[law.at].line, law.name(tokens));
+        Err(format!("{line}: {name} does nothing: is it a law that `crates.rs` must list?"))
+    })
 }
 
 /// Returns an error if a function for users requires something, and no section of its documentation says what becomes

@@ -127,6 +127,7 @@ fn translated(file: &File, Repository { laws, .. }: &Repository) -> Result<Strin
     additions::add_attributes(&mut code, file);
     left_out::leave_out_contracts(&mut code);
     left_out::leave_out_imports(&mut code, file, laws);
+    checks::check_that_each_function_does_something(&code)?;
     checks::check_that_nothing_of_rattle_is_left(&code, laws)?;
     Ok(tokens::print(&code).trim().to_owned() + "\n")
 }

@@ -85,7 +85,6 @@ fn ghost_items_clauses_and_tactics_are_left_out() {
 
 #[test]
 fn what_is_left_of_rattle_is_refused() {
-    is_refused("\nfn f() { λ }", "2: only Rattle has `λ`");
     is_refused("fn f() { let a: Option<Turns>; }", "1: only Rattle has `Turns`");
     is_refused("fn f() {\nif c { turns.tick(b) } }", "2: only Rattle has `turns`");
     for word in ["tactic", "prove", "Model", "Drop"] {
