@@ -1,12 +1,10 @@
 //! What is written in Rattle, and what is written in its place.
 
-/// The rules of packages, crates and files, in the order in which they are applied. If one were missing, rustc or the
-/// last check of `strip` would refuse what is left.
+/// The rules of packages, crates, files (`CRATE/FILE`) and examples in documentation, or of everything if no name is
+/// there. Their order says nothing: at each place the longest rule counts, and what it writes is not read again. If one
+/// were missing, rustc or the last check of `strip` would refuse what is left.
 pub(crate) const RULES: &[(&str, &[(&str, &str)])] = &[
-    // The paths of the package for those of the crates.
-    ("lexical_num", &[("crate::", "crate::num::")]),
-    ("lexical_write_integer", &[("crate::", "crate::write_integer::")]),
-    ("lexical_parts", &[("crate::", "crate::parts::")]),
+    // The paths of the package for those of the crates. Below, `crate::` gets the module that is made of a crate.
     (
         "cojimuran",
         &[
@@ -16,16 +14,31 @@ pub(crate) const RULES: &[(&str, &[(&str, &str)])] = &[
             ("std::", "core::"),
         ],
     ),
-    ("lexwrite", &[("crate::", "crate::lines::")]),
-    ("uses", &[("crate::", "crate::uses::")]),
-    // So no new method breaks a user.
+    // The same paths for a user, under which the packages export what the root of each crate has, and two modules.
+    (
+        "lexical_c lexwrite repository_tests examples",
+        &[
+            ("lexical_num::limits::", "cojimuran::format::"),
+            ("lexical_num::digit::", "cojimuran::radix::"),
+            ("lexical_num::", "cojimuran::"),
+            ("lexical_write_integer::", "cojimuran::"),
+            ("lexical_tables::", "cojimuran::table::"),
+            ("lexical_parts::", "cojimuran::"),
+            ("lexical_lines::", "lexwrite::lines::"),
+        ],
+    ),
     (
         "lexical_num",
-        &[("pub trait LexicalInteger: Copy {", "pub trait LexicalInteger: Copy + crate::sealed::Sealed {")],
+        &[
+            ("crate::", "crate::num::"),
+            // So no new method breaks a user.
+            ("pub trait LexicalInteger: Copy {", "pub trait LexicalInteger: Copy + crate::sealed::Sealed {"),
+        ],
     ),
     (
         "lexical_write_integer",
         &[
+            ("crate::", "crate::write_integer::"),
             // The root of the package exports it.
             ("pub use lexical_tables as table;", ""),
             // Its message names what does not hold, and nothing else.
@@ -45,6 +58,7 @@ pub(crate) const RULES: &[(&str, &[(&str, &str)])] = &[
     (
         "lexical_parts",
         &[
+            ("crate::", "crate::parts::"),
             // Parts can be keys and compared, as values of std can.
             ("#[derive(Clone, Copy, Debug, Drop)]", "#[derive(Clone, Copy, PartialEq, Eq, Hash, Debug)]"),
             // A formatter has no parameter here, but a lifetime.
@@ -59,6 +73,7 @@ pub(crate) const RULES: &[(&str, &[(&str, &str)])] = &[
     (
         "lexical_lines",
         &[
+            ("crate::", "crate::lines::"),
             // In Rattle each field of a value with a ghost is bound, and the ghost is dropped.
             ("let Writing { writer, trace } = self; drop(trace); writer", "self.writer"),
             // In Rattle the runtime permits input and output, and returns their streams.
@@ -68,9 +83,11 @@ pub(crate) const RULES: &[(&str, &[(&str, &str)])] = &[
         ],
     ),
     // A slice has no C ABI in rustc. So the root of lexical_c exports functions with these names, which call these.
-    ("lexical_c/write.rt", &[(r#"#[unsafe(no_mangle)] pub extern "C" fn"#, "pub fn")]),
-    ("lexical_c/decimal.rt", &[(r#"#[unsafe(no_mangle)] pub extern "C" fn"#, "pub fn")]),
-    ("lexical_c/ending.rt", &[(r#"#[unsafe(no_mangle)] pub extern "C" fn"#, "pub fn")]),
+    (
+        "lexical_c/write.rt lexical_c/decimal.rt lexical_c/ending.rt",
+        &[(r#"#[unsafe(no_mangle)] pub extern "C" fn"#, "pub fn")],
+    ),
+    ("uses", &[("crate::", "crate::uses::")]),
     (
         "repository_tests",
         &[
@@ -115,7 +132,6 @@ pub(crate) const RULES: &[(&str, &[(&str, &str)])] = &[
             ("add(floats, Scientific(", "add(floats, repository_tests::scientific::as_rust("),
         ],
     ),
-    // For everything, and for the examples in documentation.
     (
         "",
         &[
@@ -135,14 +151,6 @@ pub(crate) const RULES: &[(&str, &[(&str, &str)])] = &[
             ("!(rt;", "!("),
             ("Vec::new(alloc)", "Vec::new()"),
             (".to_string(alloc)?", ".to_string()"),
-            // The paths under which the packages export what the root of each crate has, and two of its modules.
-            ("lexical_num::limits::", "cojimuran::format::"),
-            ("lexical_num::digit::", "cojimuran::radix::"),
-            ("lexical_num::", "cojimuran::"),
-            ("lexical_write_integer::", "cojimuran::"),
-            ("lexical_tables::", "cojimuran::table::"),
-            ("lexical_parts::", "cojimuran::"),
-            ("lexical_lines::", "lexwrite::lines::"),
         ],
     ),
 ];

@@ -56,8 +56,7 @@ impl File {
     /// Reads a file at a path in the repository, and applies these rules to it.
     fn read(top: &Path, recipe: &'static Recipe, path: &Path, rules: &mut [Rule]) -> Result<File, String> {
         let in_crate = path.strip_prefix(recipe.folder_of_crate()).unwrap_or(path).to_string_lossy().into_owned();
-        let place = [recipe.package, recipe.name, &format!("{}/{in_crate}", recipe.name)];
-        let tokens = lex_and_apply(&read(&top.join(path))?, place, rules);
+        let tokens = lex_and_apply(&read(&top.join(path))?, recipe, &in_crate, rules);
         let tokens = tokens.map_err(|what| format!("{}:{what}", path.display()))?;
         let file = File { recipe, path: in_crate, tokens };
         file.check_that_laws_only_prove().map(|()| file)

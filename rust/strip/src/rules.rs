@@ -1,12 +1,13 @@
 //! Rules: tokens of a source, and those that are written in their place.
 
 use crate::items::remove_and_keep_comment;
+use crate::recipe::Recipe;
 use crate::replacements::RULES;
 use crate::tokens::{Token, check_brackets, lex, print};
 
 /// Tokens of a source, and those that are written there. A rule of a table that matches nothing is an error.
 pub(crate) struct Rule {
-    /// What it is for: a package, a crate, a file as `CRATE/FILE`, or everything if it is empty.
+    /// What it is for, as `RULES` says it.
     of: &'static str,
     from: Vec<Token>,
     to: Vec<Token>,
@@ -36,18 +37,13 @@ impl Rule {
         (!self.is_used).then(|| format!("{}: the rule for `{}` matches nothing", self.of, print(&self.from)))
     }
 
-    /// Writes the tokens of this rule wherever it matches.
-    fn apply(&mut self, tokens: &mut Vec<Token>) {
-        let mut at = 0;
-        while at + self.from.len() <= tokens.len() {
-            if self.from.iter().zip(&tokens[at..]).all(|(from, token)| from.text == token.text) {
-                self.is_used = true;
-                self.write_at(tokens, at);
-                at += self.to.len();
-            } else {
-                at += 1;
-            }
-        }
+    /// Returns whether it is for one of these.
+    fn is_for(&self, place: &[&str]) -> bool {
+        self.of.is_empty() || self.of.split(' ').any(|of| place.contains(&of))
+    }
+
+    fn matches(&self, tokens: &[Token]) -> bool {
+        self.from.len() <= tokens.len() && self.from.iter().zip(tokens).all(|(from, token)| from.text == token.text)
     }
 
     /// Writes at an index, where the tokens of the source begin, those in their place.
@@ -67,19 +63,32 @@ impl Rule {
     }
 }
 
-/// Returns the tokens of a file, with what the rules for it make of them. `place` has its package, its crate, and its
-/// path as `CRATE/FILE`.
-pub(crate) fn lex_and_apply(text: &str, place: [&str; 3], rules: &mut [Rule]) -> Result<Vec<Token>, String> {
+/// Returns the tokens of a text at a path in a crate, with what the rules for it make of them.
+pub(crate) fn lex_and_apply(text: &str, recipe: &Recipe, path: &str, rules: &mut [Rule]) -> Result<Vec<Token>, String> {
     let mut tokens = lex(text)?;
     check_brackets(&tokens)?;
-    for rule in rules.iter_mut().filter(|rule| rule.of.is_empty() || place.contains(&rule.of)) {
-        rule.apply(&mut tokens);
-    }
+    apply(rules, &[recipe.package, recipe.name, &format!("{}/{path}", recipe.name)], &mut tokens);
     apply_to_examples(&mut tokens, rules)?;
     Ok(tokens)
 }
 
-/// Applies the rules for everything to the examples in documentation. What else a comment says is copied.
+/// Writes the rules for a place, at each index the longest one that matches there.
+fn apply(rules: &mut [Rule], place: &[&str], tokens: &mut Vec<Token>) {
+    let mut rules: Vec<&mut Rule> = rules.iter_mut().filter(|rule| rule.is_for(place)).collect();
+    let mut at = 0;
+    while at < tokens.len() {
+        let matching = rules.iter_mut().filter(|rule| rule.matches(&tokens[at..]));
+        if let Some(rule) = matching.max_by_key(|rule| rule.from.len()) {
+            rule.is_used = true;
+            rule.write_at(tokens, at);
+            at += rule.to.len();
+        } else {
+            at += 1;
+        }
+    }
+}
+
+/// Applies the rules for examples to those in documentation. What else a comment says is copied.
 fn apply_to_examples(tokens: &mut [Token], rules: &mut [Rule]) -> Result<(), String> {
     let (mut is_fenced, mut is_example) = (false, false);
     for token in tokens.iter_mut().filter(|token| token.is_documentation()) {
@@ -89,9 +98,7 @@ fn apply_to_examples(tokens: &mut [Token], rules: &mut [Rule]) -> Result<(), Str
             is_fenced = !is_fenced;
         } else if is_example {
             let mut code = lex(line).map_err(|what| format!("{}: in an example: {what}", token.line))?;
-            for rule in rules.iter_mut().filter(|rule| rule.of.is_empty()) {
-                rule.apply(&mut code);
-            }
+            apply(rules, &["examples"], &mut code);
             token.text = format!("{mark}{}", print(&code));
         }
     }

@@ -19,7 +19,7 @@ fn made(text: &str) -> Result<String, String> {
     let recipe = recipe("lexical_write_integer");
     let mut repository = Repository::default();
     repository.laws.extend(["in_range", "fits_bits", "DECIMAL"].map(str::to_owned));
-    let tokens = lex_and_apply(text, [recipe.package, recipe.name, "lexical_write_integer/a.rt"], &mut Rule::all())?;
+    let tokens = lex_and_apply(text, recipe, "a.rt", &mut Rule::all())?;
     translated(&File { recipe, path: "a.rt".to_owned(), tokens }, &repository)
 }
 
@@ -207,6 +207,16 @@ fn rules_write_tokens_otherwise() {
 }
 
 #[test]
+fn the_longest_rule_counts_in_any_order() {
+    let mut rules = [("a", "a c"), ("a b", "c"), ("c", "d")].map(|(from, to)| Rule::new("", from, to));
+    for _ in 0..rules.len() {
+        rules.rotate_left(1);
+        let tokens = lex_and_apply("a b a c", recipe("lexical_tables"), "lib.rt", &mut rules).unwrap();
+        assert_eq!(words(&tokens).trim(), "c a c d");
+    }
+}
+
+#[test]
 fn imports_of_what_is_gone_are_left_out() {
     becomes("use a::{B, in_range, C}; use b::Turns; pub use c::fits_bits;", "use a::{B, C};");
     becomes("use c::{D, E}; fn f() requires { D } { E }", "use c::E; #[inline] fn f() { E }");
@@ -278,8 +288,7 @@ fn no_comment_and_no_layout_of_a_source_decides() {
             token.before = if at % 5 == 0 { "\n// ghost requires { #[cold]\n" } else { "\n" }.to_owned();
             token.after.clear();
         }
-        let place = [file.recipe.package, file.recipe.name, &format!("{}/{}", file.recipe.name, file.path)];
-        let tokens = lex_and_apply(&print(&other), place, &mut rules).unwrap();
+        let tokens = lex_and_apply(&print(&other), file.recipe, &file.path, &mut rules).unwrap();
         let other = File { path: file.path.clone(), tokens, ..*file };
         let made = |file| code(&translated(file, &repository).unwrap());
         assert_eq!(made(file), made(&other), "{}", file.path_in_repository().display());
