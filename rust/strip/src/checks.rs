@@ -30,7 +30,7 @@ pub(crate) fn check_that_each_function_does_something(tokens: &[Token]) -> Resul
 /// Returns an error if a function for users requires something, and no section of its documentation says what becomes
 /// of a call without it. In Rattle no such call compiles. What is hidden has no documentation.
 pub(crate) fn check_that_conditions_are_documented(tokens: &[Token]) -> Result<(), String> {
-    let requires = |each: &Function| each.clauses.iter().any(|clause| tokens[clause.start] == "requires");
+    let requires = |each: &Function| tokens[each.clauses.clone()].iter().any(|token| *token == "requires");
     for function in functions(tokens).iter().filter(|each| requires(each) && each.is_for_users(tokens)) {
         let head = &tokens[function.first..function.visibility];
         let is_hidden = words(head).contains("# [ doc ( hidden ) ]");

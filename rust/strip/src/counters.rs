@@ -23,7 +23,7 @@ pub(crate) fn leave_out_counters(tokens: &mut Vec<Token>, laws: &Names) {
     remove_each(tokens, remove_with_comment, |tokens, at| statement_for_proofs(tokens, at, laws));
     remove_each(tokens, remove_with_comment, empty_if);
     // `let half = n / 2; turns.tick(half); half }` has become `let half = n / 2; half }`, and becomes `n / 2 }`.
-    leave_out_bindings(tokens);
+    remove_each(tokens, keep_value, binding);
     // `f(n, &mut Turns::new())` becomes `f(n)`.
     remove_each(tokens, remove_with_comment, counter);
     // `fn f(n: u8) { f_counted(n) } fn f_counted(n: u8) { n }` becomes `fn f(n: u8) { n }`.
@@ -51,22 +51,16 @@ fn empty_if(tokens: &[Token], at: usize) -> Option<Range<usize>> {
     (head.starts_with("if ") && !head.contains('(') && tokens[at + 1] != "else").then_some(start..at + 1)
 }
 
-/// Leaves out each variable of a file that is only returned.
-fn leave_out_bindings(tokens: &mut Vec<Token>) {
-    let mut at = 0;
-    while at < tokens.len() {
-        if let Some(end) = end_of_binding(tokens, at) {
-            remove_with_comment(tokens, end..end + 2);
-            remove_and_keep_comment(tokens, at..at + 3);
-        }
-        at += 1;
-    }
+/// Returns where `let NAME = VALUE; NAME` is before a `}`, if that begins at an index.
+fn binding(tokens: &[Token], at: usize) -> Option<Range<usize>> {
+    let end = (tokens[at] == "let" && tokens[at + 2] == "=").then(|| find(tokens, at, &[";"]))?;
+    (words(&tokens[end..end + 3]) == format!("; {} }}", tokens[at + 1].text)).then_some(at..end + 2)
 }
 
-/// Returns the index of the `;` of `let NAME = VALUE; NAME }`, if that begins at an index.
-fn end_of_binding(tokens: &[Token], at: usize) -> Option<usize> {
-    let end = (tokens[at] == "let" && tokens[at + 2] == "=").then(|| find(tokens, at, &[";"]))?;
-    (words(&tokens[end..end + 3]) == format!("; {} }}", tokens[at + 1].text)).then_some(end)
+/// Makes `VALUE` of `let NAME = VALUE; NAME`.
+fn keep_value(tokens: &mut Vec<Token>, binding: Range<usize>) {
+    remove_with_comment(tokens, binding.end - 2..binding.end);
+    remove_and_keep_comment(tokens, binding.start..binding.start + 3);
 }
 
 /// Returns where the parameter, argument or field is that begins at an index, with a comma, if it is a counter.

@@ -17,8 +17,8 @@ pub(crate) struct Function {
     pub at: usize,
     /// The bracket before its parameters.
     pub parameters: usize,
-    /// Each `requires` and `ensures`.
-    pub clauses: Vec<Range<usize>>,
+    /// All `requires` and `ensures`.
+    pub clauses: Range<usize>,
     /// The bracket of its body, or the `;` in its place.
     pub body: usize,
 }
@@ -41,8 +41,7 @@ impl Function {
 
     /// Returns what is between its parameters and its clauses: the type of its result, and what `where` says.
     pub fn result<'a>(&self, tokens: &'a [Token]) -> &'a [Token] {
-        let end = self.clauses.first().map_or(self.body, |clause| clause.start);
-        &tokens[closing(tokens, self.parameters) + 1..end]
+        &tokens[closing(tokens, self.parameters) + 1..self.clauses.start]
     }
 
     /// Returns whether users can call it: whether it is public, or a method that a trait declares.
@@ -55,24 +54,22 @@ impl Function {
 
 /// Returns all functions, in their order.
 pub(crate) fn functions(tokens: &[Token]) -> Vec<Function> {
-    (0..tokens.len()).filter_map(|at| function(tokens, at)).collect()
+    (0..tokens.len()).filter_map(|at| function_at(tokens, at)).collect()
 }
 
 /// Returns the function whose word `fn` is at an index.
-pub(crate) fn function(tokens: &[Token], at: usize) -> Option<Function> {
+pub(crate) fn function_at(tokens: &[Token], at: usize) -> Option<Function> {
     if tokens[at] != "fn" || !tokens[at + 1].is_word() {
         return None;
     }
     let parameters = after_generics(tokens, at + 2);
-    let mut body = find(tokens, closing(tokens, parameters) + 1, &["requires", "ensures", "{", ";"]);
-    let mut clauses = Vec::new();
+    let clauses = find(tokens, closing(tokens, parameters) + 1, &["requires", "ensures", "{", ";"]);
+    let mut body = clauses;
     while tokens[body].is_in(&["requires", "ensures"]) {
-        let end = closing(tokens, find(tokens, body, &["{"])) + 1;
-        clauses.push(body..end);
-        body = end;
+        body = closing(tokens, find(tokens, body, &["{"])) + 1;
     }
     let (first, visibility) = (start_with_attributes(tokens, at), start_of_item(tokens, at));
-    Some(Function { first, visibility, at, parameters, clauses, body })
+    Some(Function { first, visibility, at, parameters, clauses: clauses..body, body })
 }
 
 /// Returns the names of all functions and constants.
@@ -175,9 +172,7 @@ pub(crate) fn remove_each(
 
 /// Returns where an element of a list is, with the comma that goes if the element goes.
 pub(crate) fn with_comma(tokens: &[Token], element: Range<usize>) -> Range<usize> {
-    if tokens[element.end] == "," {
-        element.start..element.end + 1
-    } else {
-        element.start - usize::from(tokens[element.start - 1] == ",")..element.end
-    }
+    let is_before_comma = tokens[element.end] == ",";
+    let is_after_comma = tokens[element.start - 1] == ",";
+    element.start - usize::from(is_after_comma && !is_before_comma)..element.end + usize::from(is_before_comma)
 }

@@ -3,7 +3,7 @@
 
 use crate::counters::COUNTERS;
 use crate::items::{
-    Names, function, functions, remove_and_keep_comment, remove_each, remove_with_comment, start_of_item,
+    Names, function_at, functions, remove_and_keep_comment, remove_each, remove_with_comment, start_of_item,
     start_with_attributes, with_comma,
 };
 use crate::repository::File;
@@ -25,9 +25,8 @@ fn tactic(tokens: &[Token], at: usize) -> Option<Range<usize>> {
 /// Leaves out the clauses of all functions.
 pub(crate) fn leave_out_contracts(tokens: &mut Vec<Token>) {
     // From the last one: so the places of the others stay as they are.
-    let clauses: Vec<_> = functions(tokens).into_iter().flat_map(|function| function.clauses).collect();
-    for clause in clauses.into_iter().rev() {
-        tokens.drain(clause);
+    for function in functions(tokens).into_iter().rev() {
+        tokens.drain(function.clauses);
     }
 }
 
@@ -41,7 +40,7 @@ fn item_left_out(tokens: &[Token], at: usize, modules: &[&str], laws: &Names) ->
         }
         "mod" if modules.contains(&next) => find(tokens, at, &[";"]) + 1,
         "const" if laws.contains(next) => find(tokens, at, &[";"]) + 1,
-        "fn" if laws.contains(next) => function(tokens, at)?.whole(tokens).end,
+        "fn" if laws.contains(next) => function_at(tokens, at)?.whole(tokens).end,
         "impl" if words(&tokens[at..find(tokens, at, &["{"])]).contains(" Model for ") => {
             closing(tokens, find(tokens, at, &["{"])) + 1
         }
@@ -92,13 +91,8 @@ fn tidy_import(tokens: &mut Vec<Token>, at: usize) {
 }
 
 fn words_outside_imports(tokens: &[Token]) -> Names {
-    let (mut names, mut at) = (Names::new(), 0);
-    while at < tokens.len() {
-        if tokens[at] == "use" {
-            at = find(tokens, at, &[";"]);
-        }
-        names.insert(tokens[at].text.clone());
-        at += 1;
-    }
-    names
+    let mut others = tokens.to_vec();
+    let import = |tokens: &[Token], at: usize| (tokens[at] == "use").then(|| at..find(tokens, at, &[";"]));
+    remove_each(&mut others, remove_with_comment, import);
+    others.into_iter().map(|token| token.text).collect()
 }
