@@ -16,9 +16,9 @@ pub(crate) fn add_attributes(tokens: &mut [Token], file: &File) {
     }
     for at in 0..tokens.len() {
         if tokens[at].is_in(&["struct", "enum", "trait"]) {
-            let attributes = file.recipe.attributes_of_type(&tokens[at + 1].text).unwrap_or_default();
+            let lines = file.recipe.lines_to_add(|attributes| attributes.are_for_type(&tokens[at + 1].text));
             let first = start_of_item(tokens, at);
-            insert_lines(&mut tokens[first], attributes);
+            insert_lines(&mut tokens[first], lines.unwrap_or_default());
         }
     }
 }
@@ -29,7 +29,8 @@ fn inlining(tokens: &[Token], function: &Function, file: &File) -> &'static str 
     if tokens[function.body] != "{" || file.recipe.is_test() || is_exported {
         return "";
     }
-    file.recipe.attributes_of_function(function.name(tokens), &file.path).unwrap_or("#[inline]")
+    let name = function.name(tokens);
+    file.recipe.lines_to_add(|attributes| attributes.are_for_function(name, &file.path)).unwrap_or("#[inline]")
 }
 
 /// Returns whether the result of a function is all that it is called for.

@@ -51,14 +51,9 @@ impl Recipe {
         matches!(self.package, "cojimuran" | "lexwrite")
     }
 
-    /// Returns the lines to add to a type, or `None` if no entry names it.
-    pub fn attributes_of_type(&self, name: &str) -> Option<&'static str> {
-        self.attributes.iter().find(|entry| entry.are_for_type(name)).map(|entry| entry.lines)
-    }
-
-    /// Returns the lines to add to a function of a file, or `None` if no entry names it.
-    pub fn attributes_of_function(&self, name: &str, file: &str) -> Option<&'static str> {
-        self.attributes.iter().find(|entry| entry.are_for_function(name, file)).map(|entry| entry.lines)
+    /// Returns the lines of the first attributes that are for a type or a function, or `None`.
+    pub fn lines_to_add(&self, are_for_it: impl Fn(&Attributes) -> bool) -> Option<&'static str> {
+        self.attributes.iter().find(|attributes| are_for_it(attributes)).map(|attributes| attributes.lines)
     }
 
     /// Returns the names of the modules of which nothing is made, without what is before them in their paths.

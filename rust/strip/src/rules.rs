@@ -3,7 +3,7 @@
 use crate::items::remove_and_keep_comment;
 use crate::recipe::Recipe;
 use crate::replacements::RULES;
-use crate::tokens::{Token, check_brackets, lex, print};
+use crate::tokens::{Token, check_brackets, is_documentation, lex, print};
 
 /// Tokens of a source, and those that are written there. A rule of a table that matches nothing is an error.
 pub(crate) struct Rule {
@@ -26,10 +26,7 @@ impl Rule {
 
     /// Returns those of the tables.
     pub fn all() -> Vec<Rule> {
-        let rules = |(of, table): &(&'static str, &[(&str, &str)])| -> Vec<Rule> {
-            table.iter().map(|(from, to)| Rule::new(of, from, to)).collect()
-        };
-        RULES.iter().flat_map(rules).collect()
+        RULES.iter().flat_map(|(of, table)| table.iter().map(|(from, to)| Rule::new(of, from, to))).collect()
     }
 
     /// Returns what is wrong with a rule that has not been used, or `None`.
@@ -91,7 +88,7 @@ fn apply(rules: &mut [Rule], place: &[&str], tokens: &mut Vec<Token>) {
 /// Applies the rules for examples to those in documentation. What else a comment says is copied.
 fn apply_to_examples(tokens: &mut [Token], rules: &mut [Rule]) -> Result<(), String> {
     let (mut is_fenced, mut is_example) = (false, false);
-    for token in tokens.iter_mut().filter(|token| token.is_documentation()) {
+    for token in tokens.iter_mut().filter(|token| is_documentation(&token.text)) {
         let (mark, line) = token.text.split_at("///".len());
         if let Some(language) = line.trim().strip_prefix("```") {
             is_example = !is_fenced && language.is_empty();

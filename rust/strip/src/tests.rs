@@ -245,16 +245,12 @@ fn a_condition_needs_a_section() {
     let error = "1: f requires something, and no section of its documentation says so";
     is_refused("pub fn f() requires { a } { b }", error);
     is_refused("trait T { fn f() requires { a }; }", error);
-    becomes(
-        "/// # Panics\n///\n/// If b.\npub fn f() requires { a } { b }",
-        "/// # Panics\n///\n/// If b.\n#[inline] pub fn f() { b }",
-    );
+    for section in ["/// # Panics\n", "/// # Not checked\n"] {
+        let text = format!("{section}pub fn f() requires {{ a }} {{ b }}");
+        becomes(&text, &format!("{section}#[inline] pub fn f() {{ b }}"));
+    }
     becomes("fn f() requires { a } { b }", "#[inline] fn f() { b }");
     becomes("#[doc(hidden)] pub fn f() requires { a } { b }", "#[doc(hidden)] #[inline] pub fn f() { b }");
-    becomes(
-        "/// # Not checked\n///\n/// A.\npub fn f() requires { a } { b }",
-        "/// # Not checked\n///\n/// A.\n#[inline] pub fn f() { b }",
-    );
 }
 
 #[test]

@@ -20,10 +20,6 @@ impl Token {
     pub fn is_word(&self) -> bool {
         self.text.starts_with(is_in_word)
     }
-
-    pub fn is_documentation(&self) -> bool {
-        is_documentation(&self.text)
-    }
 }
 
 impl PartialEq<&str> for Token {
@@ -75,7 +71,7 @@ fn line_length(text: &str) -> usize {
     text.find('\n').unwrap_or(text.len())
 }
 
-fn is_documentation(text: &str) -> bool {
+pub(crate) fn is_documentation(text: &str) -> bool {
     text.starts_with("//!") || text.starts_with("///") && !text.starts_with("////")
 }
 
