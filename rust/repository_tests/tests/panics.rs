@@ -67,13 +67,13 @@ fn radices(tried: &mut Vec<Panicking>) {
 fn formats(tried: &mut Vec<Panicking>) {
     let builder = NumberFormatBuilder::new();
     check_messages! { tried;
-        "a part is invalid: then `build` returns an error", "the mantissa radix is not from 2 to 36":
+        "a field is invalid, that is, if `build` returns an error", "the mantissa radix is not from 2 to 36":
             builder.radix(37).build_strict();
-        "a part is invalid: then `build` returns an error", "the exponent radix is not from 2 to 36":
+        "a field is invalid, that is, if `build` returns an error", "the exponent radix is not from 2 to 36":
             builder.exponent_radix(1).build_strict();
-        "a part is invalid: then `build` returns an error", "the group size is not from 1 to 64":
+        "a field is invalid, that is, if `build` returns an error", "the group size is not from 1 to 64":
             builder.digit_grouping(0, b',').build_strict();
-        "a part is invalid: then `build` returns an error", "the separator is a letter, a digit or a sign":
+        "a field is invalid, that is, if `build` returns an error", "the separator is a letter, a digit or a sign":
             builder.digit_grouping(3, b'0').build_strict();
         "the digits are grouped and the count is above `isize::MAX`", "the count is above isize::MAX":
             builder.digit_grouping(1, b',').build_strict().grouped_len(usize::MAX / 2 + 1);
