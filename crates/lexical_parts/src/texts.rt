@@ -2,6 +2,7 @@
 
 pub(crate) mod bytes;
 mod chars;
+pub(crate) mod hex_bytes;
 pub(crate) mod strings;
 mod words;
 

@@ -107,7 +107,7 @@ pub(crate) const RECIPES: &[Recipe] = &[
                     layout/tuples.rt layout/joined.rt numbers/integers.rt numbers/decimal.rt numbers/digits.rt
                     numbers/formatted.rt numbers/powers_of_two.rt numbers/fixed.rt numbers/padded.rt
                     numbers/compact.rt texts/strings.rt texts/words.rt texts/chars.rt texts/bytes.rt
-                    texts/option.rt",
+                    texts/hex_bytes.rt texts/option.rt",
                 ..ALWAYS_TRACKED
             },
             Attributes {

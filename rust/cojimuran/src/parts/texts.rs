@@ -4,6 +4,7 @@
 
 pub(crate) mod bytes;
 mod chars;
+pub(crate) mod hex_bytes;
 pub(crate) mod strings;
 mod words;
 

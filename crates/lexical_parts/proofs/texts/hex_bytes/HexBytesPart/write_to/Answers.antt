@@ -4,7 +4,7 @@ use Rattle.lexical_write_integer.specs.Padded.{IsPadded}
 use Rattle.lexical_parts.proofs.OfLayout.Lists.{written_joined}
 use Rattle.lexical_parts.proofs.OfLayout.Rooms.{leads_at, joined_room-more, joined_room-take-le, two_each}
 use Rattle.lexical_parts.proofs.OfTexts.Utf8Texts.{joined_is_utf8, padded_is_utf8}
-use Rattle.lexical_parts.proofs.numbers.powers_of_two.HexBytesPart.write_to.Goals as goal
+use Rattle.lexical_parts.proofs.texts.hex_bytes.HexBytesPart.write_to.Goals as goal
 
 pub write_next-count-requires-clause-room : goal.write_next-count-requires-clause-room
 write_next-count-requires-clause-room c =

@@ -3,7 +3,7 @@ use Rattle.lexical_write_integer.specs.Buffer.{Writes}
 use Rattle.lexical_write_integer.specs.Padded.{IsPadded}
 use Rattle.lexical_write_integer.specs.Sequence.{AreJoined}
 use Rattle.lexical_parts.specs.Joined.{joined_room}
-use Rattle.lexical_parts.proofs.numbers.powers_of_two.HexBytesPart.write_to.Given as goal
+use Rattle.lexical_parts.proofs.texts.hex_bytes.HexBytesPart.write_to.Given as goal
 
 -- the bytes so far are written, each in two digits
 abbrev pub invariant-loop-index : goal.invariant-loop-index

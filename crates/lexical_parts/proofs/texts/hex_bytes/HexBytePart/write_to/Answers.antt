@@ -2,7 +2,7 @@ use Rattle.std.proofs.Common.{◌≤◌, List, length, take, drop, set, ◌++◌
 use Rattle.std.proofs.Common.{arith, rules}
 use Rattle.std.proofs.lemmas.List.Elements.{All-nil, All-cons}
 use Rattle.lexical_num.specs.Digit.{digit_char}
-use Rattle.lexical_parts.proofs.numbers.powers_of_two.HexBytePart.write_to.Goals as goal
+use Rattle.lexical_parts.proofs.texts.hex_bytes.HexBytePart.write_to.Goals as goal
 
 -- the second digit, and then the first
 stores : (buffer : List ℕ) (x y : ℕ) → 2 ≤ length buffer

@@ -2,7 +2,7 @@ use Rattle.std.proofs.lemmas.Grind.{common_steps}
 use Rattle.std.proofs.Common.{ℕ, ◌*◌, arith, length}
 use Rattle.lexical_write_integer.specs.Padded.{IsPadded}
 use Rattle.lexical_parts.proofs.OfTexts.Lengths.{each_same, padded_length, joined_length}
-use Rattle.lexical_parts.proofs.numbers.powers_of_two.HexBytesPart.text_len.Goals as goal
+use Rattle.lexical_parts.proofs.texts.hex_bytes.HexBytesPart.text_len.Goals as goal
 
 pub returns : goal.returns
 returns c =

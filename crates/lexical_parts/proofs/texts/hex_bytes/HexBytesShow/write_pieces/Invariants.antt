@@ -2,7 +2,7 @@ use Rattle.std.proofs.Common.{take}
 use Rattle.lexical_write_integer.specs.Padded.{IsPadded}
 use Rattle.lexical_write_integer.specs.Sequence.{AreJoined}
 use Rattle.lexical_parts.specs.ShownParts.{WritesSome}
-use Rattle.lexical_parts.proofs.numbers.powers_of_two.HexBytesShow.write_pieces.Given as goal
+use Rattle.lexical_parts.proofs.texts.hex_bytes.HexBytesShow.write_pieces.Given as goal
 
 -- the bytes so far are written
 abbrev pub invariant-loop-index : goal.invariant-loop-index

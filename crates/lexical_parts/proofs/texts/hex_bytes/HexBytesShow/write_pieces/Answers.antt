@@ -4,7 +4,7 @@ use Rattle.std.proofs.Output.{writes_in_calls_single}
 use Rattle.lexical_write_integer.specs.Padded.{IsPadded}
 use Rattle.lexical_parts.proofs.OfLayout.Rooms.{leads_at}
 use Rattle.lexical_parts.proofs.OfFormatting.ShownParts.{WritesSome-joined, written_in_one_piece}
-use Rattle.lexical_parts.proofs.numbers.powers_of_two.HexBytesShow.write_pieces.Goals as goal
+use Rattle.lexical_parts.proofs.texts.hex_bytes.HexBytesShow.write_pieces.Goals as goal
 
 pub loop-index-preserved : goal.loop-index-preserved
 loop-index-preserved g c =
