@@ -5,404 +5,23 @@
 
 #![cfg_attr(feature = "format_into", feature(int_format_into))]
 
-use cojimuran::{Append, Buffer, NumberFormat, NumberFormatBuilder, Options, ToLexical, ToLexicalWithOptions};
-use cojimuran::{Decimal, Digits, Displayed, Formatted, Hex, Joined, Lower, Part, Show, Shown};
-use lexical_write_integer as lexical;
-use std::fmt::Write as _;
-use std::hint::black_box;
-use std::io::Write as _;
-use std::process::{Command, ExitCode};
-use std::time::Instant;
+#[macro_use]
+mod loops;
+mod measure;
+mod rows;
 
-#[allow(dead_code, reason = "it is a program")]
-#[path = "../../../cojimuran/examples/number_of_128_bits.rs"]
-mod example;
-
-/// How many numbers are written.
-const COUNT: usize = 10_000;
-
-/// How many passes are timed, of which the best counts.
-const PASSES: usize = 2_000;
-
-const THOUSANDS: NumberFormat = NumberFormatBuilder::new().digit_grouping(3, b',').build_strict();
-
-const RADICES: [NumberFormat; 37] = {
-    let mut formats = [NumberFormatBuilder::from_radix(10); 37];
-    let mut radix = 2;
-    while radix <= 36 {
-        formats[radix as usize] = NumberFormatBuilder::from_radix(radix);
-        radix += 1;
-    }
-    formats
-};
-
-/// Writes each number to an array, and returns how many bytes that were.
-type Loop = fn(&[u64]) -> usize;
-
-/// Returns a loop over numbers of a type, each of which a call writes to a buffer. It is a function of its own.
-macro_rules! loop_with_buffer {
-    ($number:ty, |$value:ident, $buffer:ident| $call:expr) => {{
-        #[inline(never)]
-        #[allow(unused_mut, reason = "some calls take no buffer")]
-        fn each(numbers: &[u64]) -> usize {
-            let (mut total, mut $buffer) = (0, [0u8; 128]);
-            for number in numbers {
-                let $value = black_box(*number as $number);
-                total += $call;
-                black_box(&$buffer);
-            }
-            total
-        }
-        each as Loop
-    }};
-}
-
-/// Returns a loop over numbers of a type, of each of which an expression is the text. It counts the bytes of the texts.
-macro_rules! loop_of_texts {
-    ($number:ty, |$value:ident| $text:expr) => {
-        loop_with_buffer!($number, |$value, b| black_box($text).len() + usize::from(b[0]))
-    };
-}
-
-/// Returns a loop by `write!` of the standard library.
-macro_rules! loop_by_write {
-    ($number:ty, |$value:ident| $($text:tt)*) => {
-        loop_with_buffer!($number, |$value, buffer| {
-            let mut rest = &mut buffer[..];
-            write!(rest, $($text)*).unwrap();
-            128 - rest.len()
-        })
-    };
-}
-
-/// Returns a loop that appends numbers to a `Vec`, which is empty again after some bytes.
-macro_rules! loop_to_vec {
-    ($number:ty, |$value:ident, $bytes:ident| $call:expr) => {{
-        #[inline(never)]
-        fn each(numbers: &[u64]) -> usize {
-            let (mut total, mut $bytes) = (0, Vec::with_capacity(4096));
-            for number in numbers {
-                let $value = black_box(*number as $number);
-                if $bytes.len() > 4000 {
-                    total += $bytes.len();
-                    $bytes.clear();
-                }
-                $call;
-                black_box(&$bytes);
-            }
-            total + $bytes.len()
-        }
-        each as Loop
-    }};
-}
-
-/// Returns a loop over groups of numbers, each of which is written to a `String`, which is empty again after some
-/// bytes.
-macro_rules! loop_to_string {
-    ($count:literal, |$numbers:ident, $text:ident| $call:expr) => {{
-        #[inline(never)]
-        fn each(numbers: &[u64]) -> usize {
-            let (mut total, mut $text) = (0, String::with_capacity(4096));
-            for group in numbers.chunks_exact($count) {
-                let $numbers: &[u64; $count] = black_box(group).try_into().unwrap();
-                if $text.len() > 3800 {
-                    total += $text.len();
-                    $text.clear();
-                }
-                $call;
-                black_box(&$text);
-            }
-            total + $text.len()
-        }
-        each as Loop
-    }};
-}
-
-/// Returns a line of a log.
-fn line(number: u64) -> impl Show {
-    ("id=", number, " flags=0x", Hex(number as u16))
-}
-
-/// Returns a number of 65 to 128 bits.
-fn with_128_bits(number: u64) -> u128 {
-    u128::from(number) << 64 | u128::from(number)
-}
-
-/// Returns a line of CSV.
-fn csv(numbers: &[u64; 4]) -> impl Show {
-    let [first, second, third, fourth] = *numbers;
-    (first, ",", second, ",", third, ",", fourth, "\n")
-}
-
-/// Appends numbers, each followed by a comma, with a `Buffer`.
-fn join_by_buffer(numbers: &[u64], text: &mut String) {
-    for number in numbers {
-        text.push_str(Buffer::new().format(*number));
-        text.push(',');
-    }
-}
-
-/// Appends numbers, each followed by a comma, with `itoa`.
-fn join_by_itoa(numbers: &[u64], text: &mut String) {
-    for number in numbers {
-        text.push_str(itoa::Buffer::new().format(*number));
-        text.push(',');
-    }
-}
-
-/// Appends numbers, each followed by a comma, with the standard library.
-fn join_by_std(numbers: &[u64], text: &mut String) {
-    for number in numbers {
-        write!(text, "{number},").unwrap();
-    }
-}
-
-/// Returns the loops of this package and of `lexical-write-integer` in a radix.
-macro_rules! loops_in_radix {
-    ($radix:literal) => {{
-        const FORMAT: u128 = lexical::NumberFormatBuilder::from_radix($radix);
-        (
-            loop_with_buffer!(u64, |n, b| n
-                .to_lexical_with_options(&mut b, const { &RADICES[$radix] }, &Options::new())
-                .len()),
-            loop_with_buffer!(u64, |n, b| {
-                let options = lexical::Options::new();
-                lexical::ToLexicalWithOptions::to_lexical_with_options::<FORMAT>(n, &mut b, &options).len()
-            }),
-        )
-    }};
-}
-
-/// Returns the row of numbers of a type in decimal, which are written as a `&str`.
-macro_rules! row_of_str {
-    ($name:literal, $number:ty, |$value:ident| $made:expr) => {
-        Row {
-            name: $name,
-            here: loop_of_texts!($number, |$value| Buffer::new().format($made)),
-            others: vec![(ITOA, loop_of_texts!($number, |$value| itoa::Buffer::new().format($made)))],
-        }
-    };
-}
-
-/// Returns the row of numbers of a type in decimal, which are written as bytes.
-macro_rules! row_of_bytes {
-    ($name:literal, $number:ty) => {
-        Row {
-            name: $name,
-            here: loop_with_buffer!($number, |n, b| n.to_lexical(&mut b).len()),
-            others: vec![
-                (LEXICAL, loop_with_buffer!($number, |n, b| lexical::ToLexical::to_lexical(n, &mut b).len())),
-                (ITOA, loop_of_texts!($number, |n| itoa::Buffer::new().format(n))),
-                (WRITE, loop_by_write!($number, |n| "{n}")),
-            ],
-        }
-    };
-}
-
-const ITOA: &str = "`itoa`";
-const LEXICAL: &str = "`lexical-write-integer`";
-const WRITE: &str = "`write!`";
-
-/// What is written, the loop of this package, and the loops of others with their names.
-struct Row {
-    name: &'static str,
-    here: Loop,
-    others: Vec<(&'static str, Loop)>,
-}
-
-fn row(name: &'static str, here: Loop, others: &[(&'static str, Loop)]) -> Row {
-    Row { name, here, others: others.to_vec() }
-}
-
-fn rows_of_numbers() -> Vec<Row> {
-    let (here_8, lexical_8) = loops_in_radix!(8);
-    let (here_16, lexical_16) = loops_in_radix!(16);
-    let (here_36, lexical_36) = loops_in_radix!(36);
-    let to_str_36 = loop_with_buffer!(u64, |n, b| Digits(36, n).to_str(&mut b).len());
-    let lower_16 = loop_of_texts!(u64, |n| Lower(Hex(n)).to_str(&mut [0; 16]));
-    let lower_36 = loop_of_texts!(u64, |n| Lower(Digits(36, n)).to_str(&mut [0; 13]));
-    let groups = loop_with_buffer!(u64, |n, b| Formatted(n, &THOUSANDS).to_str(&mut b).len());
-    let groups_by_num_format = loop_with_buffer!(u64, |n, b| {
-        let mut text = num_format::Buffer::new();
-        text.write_formatted(&n, &num_format::Locale::en) + usize::from(black_box(text.as_bytes())[0] & b[0])
-    });
-    let example = loop_of_texts!(u64, |n| example::format_u128(with_128_bits(n), &mut [0; 40]));
-    let displayed = loop_of_texts!(u64, |n| Displayed(&with_128_bits(n)).to_str(&mut [0; 40]));
-    let itoa_128 = loop_of_texts!(u64, |n| itoa::Buffer::new().format(with_128_bits(n)));
-    let write_128 = loop_by_write!(u64, |n| "{}", with_128_bits(n));
-    let radix_fmt_36 = loop_by_write!(u64, |n| "{:#}", radix_fmt::radix_36(n));
-    let rows = [
-        row_of_str!("a `u64` as a `&str`", u64, |n| n),
-        row_of_str!("a `u64` of 3 digits as a `&str`", u64, |n| 100 + (n & 511)),
-        row_of_str!("a `u64` of 20 digits as a `&str`", u64, |n| n | 3 << 62),
-        row_of_str!("an `i64` that is not negative, as a `&str`", i64, |n| n & i64::MAX),
-        row_of_str!("an `i32` as a `&str`", i32, |n| n),
-        row_of_bytes!("a `u64` as bytes", u64),
-        row_of_bytes!("a `u32` as bytes", u32),
-        row_of_bytes!("a `u8` as bytes", u8),
-        row_of_bytes!("an `i64` as bytes", i64),
-        row_of_bytes!("an `i32` as bytes", i32),
-        row_of_bytes!("an `i8` as bytes", i8),
-        row("a `u64` in groups of three", groups, &[("`num-format`", groups_by_num_format)]),
-        row(
-            "a `u64` in radix 8, by a constant format",
-            here_8,
-            &[(LEXICAL, lexical_8), (WRITE, loop_by_write!(u64, |n| "{n:o}"))],
-        ),
-        row(
-            "a `u64` in radix 16, by a constant format",
-            here_16,
-            &[(LEXICAL, lexical_16), (WRITE, loop_by_write!(u64, |n| "{n:X}"))],
-        ),
-        row("the same by `Hex`", loop_with_buffer!(u64, |n, b| Hex(n).write_to(&mut b)), &[]),
-        row("the same in lowercase, by `Lower(Hex)`", lower_16, &[(WRITE, loop_by_write!(u64, |n| "{n:x}"))]),
-        row(
-            "a `u64` in radix 36, by a constant format",
-            here_36,
-            &[(LEXICAL, lexical_36), ("`radix_fmt`", radix_fmt_36)],
-        ),
-        row("the same by `Digits`", to_str_36, &[]),
-        row("the same in lowercase, by `Lower(Digits)`", lower_36, &[]),
-        row("a `u128` of 65 to 128 bits, by functions of your own", example, &[(ITOA, itoa_128), (WRITE, write_128)]),
-        row("the same by `Displayed`", displayed, &[]),
-    ];
-    rows.into_iter().map(with_format_into).collect()
-}
-
-/// Adds the method `format_into` of std, which is not stable yet, to the row of a `&str` of any length.
-#[cfg(feature = "format_into")]
-fn with_format_into(mut row: Row) -> Row {
-    let found = match row.name {
-        "a `u64` as a `&str`" => loop_of_texts!(u64, |n| n.format_into(&mut core::fmt::NumBuffer::new())),
-        "an `i32` as a `&str`" => loop_of_texts!(i32, |n| n.format_into(&mut core::fmt::NumBuffer::new())),
-        _ => return row,
-    };
-    row.others.push(("`format_into`", found));
-    row
-}
-
-#[cfg(not(feature = "format_into"))]
-fn with_format_into(row: Row) -> Row {
-    row
-}
-
-fn rows_of_lines() -> Vec<Row> {
-    let shown = loop_with_buffer!(u64, |n, b| write!(&mut b[..], "{}", Decimal(n)).map_or(0, |()| 1));
-    let str_line = loop_with_buffer!(u64, |n, b| line(n).to_str(&mut b).len());
-    let write_line = loop_by_write!(u64, |n| "id={n} flags=0x{:X}", n as u16);
-    let shown_line = loop_with_buffer!(u64, |n, b| write!(&mut b[..], "{}", Shown(line(n))).map_or(0, |()| 1));
-    let vec = loop_to_vec!(u64, |n, bytes| bytes.extend_from_slice(n.to_lexical(&mut [0; 20])));
-    let vec_by_others = [
-        (
-            LEXICAL,
-            loop_to_vec!(u64, |n, bytes| bytes.extend_from_slice(lexical::ToLexical::to_lexical(n, &mut [0; 20]))),
-        ),
-        (ITOA, loop_to_vec!(u64, |n, bytes| bytes.extend_from_slice(itoa::Buffer::new().format(n).as_bytes()))),
-        (WRITE, loop_to_vec!(u64, |n, bytes| write!(bytes, "{n}").unwrap())),
-    ];
-    let joined = loop_to_string!(8, |numbers, text| text.push_str((Joined(numbers, ","), ",").to_str(&mut [0; 168])));
-    let joined_by_others = [
-        (ITOA, loop_to_string!(8, |numbers, text| join_by_itoa(numbers, &mut text))),
-        (WRITE, loop_to_string!(8, |numbers, text| join_by_std(numbers, &mut text))),
-    ];
-    let csv_by_others = [
-        (ITOA, loop_to_string!(4, |numbers, text| join_by_itoa(numbers, &mut text))),
-        (WRITE, loop_to_string!(4, |n, text| writeln!(text, "{},{},{},{}", n[0], n[1], n[2], n[3]).unwrap())),
-    ];
-    let str_csv = loop_to_string!(4, |numbers, text| text.push_str(csv(numbers).to_str(&mut [0; 84])));
-    let append_csv = loop_to_string!(4, |numbers, text| csv(numbers).append_to(&mut text));
-    let pieces_csv = loop_to_string!(4, |numbers, text| csv(numbers).write_pieces(&mut text).unwrap());
-    let buffer_csv = loop_to_string!(4, |numbers, text| join_by_buffer(numbers, &mut text));
-    vec![
-        row("`{}` of a `u64`, by `Decimal`", shown, &[(WRITE, loop_by_write!(u64, |n| "{n}"))]),
-        row("a line `id=N flags=0xM`, M of 16 bits, by `to_str` of a tuple", str_line, &[(WRITE, write_line)]),
-        row("`{}` of that line, by `Shown`", shown_line, &[]),
-        row("a `u64` to the end of a `Vec`", vec, &vec_by_others),
-        row("each of 8 `u64` with commas, to the end of a `String`", joined, &joined_by_others),
-        row("each of 4 `u64` in a row of CSV, to a `String`, by `to_str` and `push_str`", str_csv, &csv_by_others),
-        row("the same by `append_to`", append_csv, &[]),
-        row("the same by `write_pieces`", pieces_csv, &[]),
-        row("the same by `Buffer::format` and `push_str` in a loop", buffer_csv, &[]),
-    ]
-}
-
-fn rows() -> Vec<Row> {
-    rows_of_numbers().into_iter().chain(rows_of_lines()).collect()
-}
-
-fn random(state: &mut u64) -> u64 {
-    *state ^= *state << 13;
-    *state ^= *state >> 7;
-    *state ^= *state << 17;
-    *state
-}
-
-/// Returns numbers of 1 to 64 bits, each length as often, or of this many digits in a radix. The lengths are in no
-/// order, since a processor learns to predict lengths that follow a pattern.
-fn numbers(digits: Option<(u64, u32)>) -> Vec<u64> {
-    let state = &mut 0x9e37_79b9_7f4a_7c15_u64;
-    let number = |_| match digits {
-        None => (random(state) | 1 << 63) >> (random(state) % 64),
-        Some((radix, count)) => {
-            let least = radix.pow(count - 1);
-            least + random(state) % (least.saturating_mul(radix - 1).min(u64::MAX - least))
-        }
-    };
-    (0..COUNT).map(number).collect()
-}
-
-/// Returns how many instructions of a number this program takes to write some numbers with a loop.
-fn instructions(words: [usize; 4]) -> f64 {
-    let run = |count: usize| {
-        let mut command = Command::new("valgrind");
-        command.args(["--tool=callgrind", "--callgrind-out-file=/dev/null"]).arg(std::env::current_exe().unwrap());
-        command.arg("--run");
-        let words = [words[0], words[1], words[2], words[3], count];
-        let output = command.args(words.map(|word| word.to_string())).output().expect("valgrind");
-        let text = String::from_utf8_lossy(&output.stderr);
-        let count =
-            text.lines().find_map(|line| Some(line.split_once("Collected : ")?.1.trim().parse::<u64>().unwrap()));
-        count.unwrap_or_else(|| panic!("valgrind: {text}"))
-    };
-    (run(COUNT) - run(0)) as f64 / COUNT as f64
-}
-
-/// Returns the loops of a row: the one of this package, and then those of others.
-fn loops(row: &Row) -> Vec<Loop> {
-    std::iter::once(row.here).chain(row.others.iter().map(|(_, each)| *each)).collect()
-}
-
-/// Prints the counts of the row with a name by the number of digits, which the radix bounds.
-fn print_by_digits(name: &str, radix: usize, most: usize) {
-    let rows = rows();
-    let row = rows.iter().position(|row| row.name == name).expect("a row of this name");
-    for digits in 1..=most {
-        let counts = (0..loops(&rows[row]).len()).map(|column| instructions([row, column, radix, digits]));
-        println!("{radix} {digits} {}", counts.map(|count| format!("{count:.0}")).collect::<Vec<_>>().join(" "));
-    }
-}
-
-/// Returns how many nanoseconds a number takes: the best of all passes, in which the loops take turns.
-fn times(loops: &[Loop], numbers: &[u64]) -> Vec<f64> {
-    let mut best = vec![f64::MAX; loops.len()];
-    for _ in 0..PASSES {
-        for (each, best) in loops.iter().zip(&mut best) {
-            let start = Instant::now();
-            black_box(each(numbers));
-            *best = best.min(start.elapsed().as_secs_f64() * 1e9 / COUNT as f64);
-        }
-    }
-    best
-}
+use measure::{Length, Run, instructions, numbers, times};
+use rows::{U64_AS_BYTES, U64_IN_RADIX_36, rows};
+use std::process::ExitCode;
 
 /// Prints the nanoseconds of each row, and the instructions in parentheses if they are wanted.
 fn print_table(with_instructions: bool) {
     let numbers = numbers(None);
     println!("| what is written | cojimuran | others |\n|---|---|---|");
     for (index, row) in rows().iter().enumerate() {
-        let times = times(&loops(row), &numbers).into_iter().enumerate();
+        let times = times(&row.loops(), &numbers).into_iter().enumerate();
         let mut cells = times.map(|(column, time)| match with_instructions {
-            true => format!("{time:.1} ({:.0})", instructions([index, column, 0, 0])),
+            true => format!("{time:.1} ({:.0})", instructions(index, column, None)),
             false => format!("{time:.1}"),
         });
         let here = cells.next().expect("a loop of this package");
@@ -412,10 +31,15 @@ fn print_table(with_instructions: bool) {
     }
 }
 
-/// Writes numbers with a loop, and prints how many bytes that were: what another process does for `instructions`.
-fn run([row, column, radix, digits, count]: [usize; 5]) {
-    let digits = (radix > 0).then_some((radix as u64, digits as u32));
-    println!("{}", loops(&rows()[row])[column](&numbers(digits)[..count]));
+/// Prints the counts of the row with a name by the number of digits in a radix.
+fn print_by_digits(name: &str, radix: u64, most: u32) {
+    let rows = rows();
+    let row = rows.iter().position(|row| row.name == name).expect("a row of this name");
+    for digits in 1..=most {
+        let length = Some(Length { radix, digits });
+        let counts = (0..rows[row].loops().len()).map(|column| format!("{:.0}", instructions(row, column, length)));
+        println!("{radix} {digits} {}", counts.collect::<Vec<_>>().join(" "));
+    }
 }
 
 fn main() -> ExitCode {
@@ -424,12 +48,10 @@ fn main() -> ExitCode {
         [] => print_table(true),
         ["--times"] => print_table(false),
         ["--by-digits"] => {
-            print_by_digits("a `u64` as bytes", 10, 20);
-            print_by_digits("a `u64` in radix 36, by a constant format", 36, 13);
+            print_by_digits(U64_AS_BYTES, 10, 20);
+            print_by_digits(U64_IN_RADIX_36, 36, 13);
         }
-        ["--run", row, column, radix, digits, count] => {
-            run([row, column, radix, digits, count].map(|word| word.parse().expect("a number")));
-        }
+        ["--run", row, column, radix, digits, count] => Run::of([row, column, radix, digits, count]).perform(),
         _ => {
             eprintln!("use: cargo run --release [-- --times | --by-digits]");
             return ExitCode::FAILURE;
