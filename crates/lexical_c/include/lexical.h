@@ -202,7 +202,8 @@ size_t lexical_decimal_i64(int64_t value, char *buffer, size_t size) LEXICAL_NOE
  * bits, so that a wrong radix such as 266 is refused and not truncated to 10.
  *
  * In C89, and in C++ before C++20, write the fields in their order, { 10, 0, 3, ',' }, or
- * set the fields of a variable.
+ * initialize a variable with LEXICAL_RADIX(10), and then set its fields. The fields of a
+ * variable without an initializer have no certain values in C, and in C++ before C++14.
  *
  * From C++14 on, each field after the radix has the default value 0, so the default
  * constructor is not trivial. To clear a format write `format = {}`, because g++ warns of
@@ -230,8 +231,8 @@ struct lexical_format {
  *
  *     count = lexical_write(48879, LEXICAL_FORMAT(.radix = 16), buffer, sizeof buffer);
  *
- * In C99 and later it is a pointer to an unnamed constant, which exists until the end of
- * the block in which you write it.
+ * In C99 and later it is a pointer to an unnamed const object (a compound literal), which
+ * exists until the end of the block in which you write it.
  *
  * In C++ it is a format and not a pointer, because a pointer to a temporary object could
  * outlive the object. So only lexical_write and lexical_length take it. C++20 has the names
@@ -256,8 +257,9 @@ struct lexical_format {
  *
  *     const struct lexical_format hexadecimal = LEXICAL_RADIX(16);
  *
- * The radix may have any standard integer type except bool. If it is not from 2 to 36, the
- * radix of the format is 0, which is invalid. An invalid radix that is an integer constant
+ * The radix may have any integer type of at most 64 bits except bool. Cast another type,
+ * such as a double, because it is converted without a warning. If the radix is not from 2
+ * to 36, the radix of the format is 0, which is invalid. An invalid radix that is an integer constant
  * expression is a compile error in C11 and later, and with gcc and clang also in older C and
  * in C++11 and later. The error mentions an array of a negative size, or -1.
  *
@@ -426,8 +428,8 @@ size_t lexical_write_i64(int64_t value, const struct lexical_format *format,
 /*
  * lexical_pad: inserts zeros into a text, after its sign, until it has `width` bytes.
  *
- *     count   the length of the text at `buffer`, or 0 after an error; any text is allowed, and
- *             its sign is a '-' or a '+' at its start
+ *     count   the length of the text at `buffer`, or 0 after an error; the text need not come
+ *             from this library, and a '-' or a '+' at its start counts as its sign
  *     width   the minimum length of the text; a longer text stays as it is
  *     buffer  where the text begins
  *     size    the size of the buffer in bytes
@@ -456,8 +458,8 @@ size_t lexical_pad(size_t count, size_t width, char *buffer, size_t size) LEXICA
  *     size    the size of the buffer in bytes, with a byte for the NUL
  *
  * Returns `count`. Returns 0 if `count` is 0, or if `size` is not greater than `count`, so
- * that the NUL does not fit. Then the buffer becomes an empty string, and a text in it is
- * lost, unless `size` is 0. So a buffer of at least one byte is a string after every call,
+ * that the NUL does not fit. In both cases, if `size` is not 0, the buffer becomes an empty
+ * string, and a text in it is lost. So a buffer of at least one byte is a string after every call,
  * and you may ignore the result where an empty string will do.
  */
 LEXICAL_HAS((nothrow)) LEXICAL_ACCESS((write_only, 2, 3))
