@@ -18,7 +18,7 @@ use crate::num::LexicalInteger;
 pub const BUFFER_SIZE: usize = 128;
 
 /// An integer type with two buffer sizes, each enough for every number of the type: one for decimal, and one for other
-/// radices. `buffer_size` of the options returns the one for a format.
+/// radices. `WriteOptions::buffer_size` returns the right one for a format.
 ///
 /// ```
 /// use lexical_write_integer::{FormattedSize, ToLexical};

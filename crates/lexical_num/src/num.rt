@@ -383,11 +383,11 @@ pub trait UnsignedInteger: LexicalInteger {
         number as u32
     }
 
-    /// Returns the number as a `u64`, which every number of the type fits.
+    /// Returns the number as a `u64`, which can hold every number of the type.
     fn as_u64(self) -> u64
         ensures { result ≡ magnitude self };
 
-    /// Returns the number as a `usize`, which every number of the type fits if pointers have 64 bits.
+    /// Returns the number as a `usize`, which can hold every number of the type if pointers have 64 bits.
     /// If they have 32, the call panics for 2^32 and above.
     fn as_usize(self) -> usize
         ensures { result ≡ magnitude self };

@@ -1,4 +1,4 @@
-//! Writes lines of unknown length to a file, by a `String` that is kept from line to line.
+//! Writes lines of unknown length to a file or another `io::Write`, with a `String` that is kept from line to line.
 
 use cojimuran::{Joined, Show};
 use std::io;

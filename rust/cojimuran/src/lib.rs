@@ -15,7 +15,7 @@
 //! |---|---|
 //! | one decimal number as a `&str` | [`Buffer::new().format(number)`](Buffer::format) |
 //! | a part, such as a tuple, in a `String` or any other `fmt::Write` | [`part.write_pieces(&mut text)?`](Show::write_pieces) |
-//! | a part at the end of a `String` or a `Vec`, with the feature `alloc` | `part.append_to(&mut text)` of `Append` |
+//! | a part at the end of a `String` or a `Vec`, with the feature `alloc` | `part.append_to(&mut text)` of the trait `Append` |
 //! | a part in an array, as a `&str` | [`part.to_str(&mut buffer)`](Part::to_str) |
 //! | a part in an array, as bytes | [`part.to_text(&mut buffer)`](Part::to_text) |
 //! | a part in an array that may be too short | [`part.try_to_str(&mut buffer)`](Part::try_to_str) |
@@ -24,7 +24,7 @@
 //!
 //! An array must have [`part.room()`](Part::room) bytes, otherwise `to_str`
 //! [panics](conditions#what-happens-otherwise). [A table](conditions#how-long-a-buffer-must-be) has the room of each
-//! part. Write a text of unknown length by `write_pieces`, which needs no array. [`BUFFER_SIZE`] bytes are enough for
+//! part. Write a text of unknown length with `write_pieces`, which needs no array. [`BUFFER_SIZE`] bytes are enough for
 //! one number in any format.
 //!
 //! A `char`, a `bool`, an `Option` of a part and a reference to a part are also parts, and with the feature `alloc` a
@@ -45,7 +45,7 @@
 //! | [`Sign`] | the sign of a number, or nothing |
 //! | [`Displayed`] | any value with `Display`, such as a float or a `u128` |
 //!
-//! Most programs need nothing else. The other items are for two purposes:
+//! Most programs need nothing else. The other items are mostly for two purposes:
 //!
 //! | purpose | items |
 //! |---|---|

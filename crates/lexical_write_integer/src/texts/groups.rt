@@ -36,8 +36,8 @@ use lexical_num::format::NumberFormat;
 ///
 /// # Not checked
 ///
-/// Rust checks neither that the count is above 0, nor, if the format has no groups, that the buffer has as many bytes.
-/// Otherwise the call returns the count, and writes nothing.
+/// Two conditions are not checked: that the count is above 0, and, if the format has no groups, that the buffer has as
+/// many bytes. If one of them does not hold, the call returns the count, and writes nothing.
 pub fn group_digits(count: usize, format: &NumberFormat, buffer: &mut [u8]) -> usize
     requires some { 1 ≤ count }
     requires room { grouped_length format.now.digit_grouping count ≤ length buffer.old }

@@ -38,8 +38,9 @@ pub trait Part: Copy {
     #[must_use]
     fn room(self) -> usize;
 
-    /// Writes the text to the start of the buffer, and returns its length. Every byte after the
-    /// text is unchanged. The part must be valid, and the buffer must have `room` bytes or more.
+    /// Writes the text to the start of the buffer, and returns its length. Every byte after the text is unchanged. The
+    /// part must be valid, and the buffer must have `room` bytes or more. (A shorter buffer [may happen to be
+    /// enough](crate::conditions#what-happens-otherwise).)
     ///
     /// # Panics
     ///
@@ -79,8 +80,9 @@ pub trait Part: Copy {
     }
 
     /// Writes the text to the start of the buffer, and returns those bytes of the buffer, which the
-    /// caller may read and change. Every byte after the text is unchanged. The part must be valid,
-    /// and the buffer must have `room` bytes or more.
+    /// caller may read and change. Every byte after the text is unchanged. The part must be valid, and the buffer must
+    /// have `room` bytes or more. (A shorter buffer [may happen to be
+    /// enough](crate::conditions#what-happens-otherwise).)
     ///
     /// # Panics
     ///
@@ -93,7 +95,8 @@ pub trait Part: Copy {
     }
 
     /// Writes the text to the buffer from `index` on, and returns the index after the text. Every other byte is
-    /// unchanged. The part must be valid, and the buffer must have `room` bytes or more from `index` on.
+    /// unchanged. The part must be valid, and the buffer must have `room` bytes or more from `index` on. (Fewer bytes [may
+    /// happen to be enough](crate::conditions#what-happens-otherwise).)
     ///
     /// # Panics
     ///
@@ -127,8 +130,8 @@ pub trait Part: Copy {
     /// bytes or more.
     ///
     /// `std::str::from_utf8` reads the text once to check it if there is a `Displayed`, a reference to a `String` or a
-    /// part of your own in it, or if a byte or a fill in it is 128 or above. A `Bytes` is checked alone. Other texts
-    /// need no check.
+    /// part of your own in it, if a byte or a fill in it is 128 or above, or if a `Bytes` in it is not UTF-8 by itself.
+    /// Other texts need no check.
     ///
     /// # Panics
     ///

@@ -9,7 +9,7 @@ use core::fmt;
 pub(crate) const MOST_IN_ONE_PIECE: usize = 256;
 
 /// Adds `write_pieces`, which writes a part to a `String` or any other writer, and lets
-/// [`Shown(part)`](super::super::Shown) stand in a format string.
+/// [`Shown(part)`](super::super::Shown) be used in a format string.
 ///
 /// All parts of this crate implement it, and so do tuples, columns and [`Joined`](super::super::Joined) of them. Many
 /// of them, such as `Hex`, also have `Display`, so you can write them in a format string without `Shown`.

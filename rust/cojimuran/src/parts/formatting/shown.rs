@@ -16,7 +16,7 @@ use core::fmt;
 
 /// A tuple of parts, or another part, in a format string.
 ///
-/// A width, a fill and a precision work as for a `&str`, also if the part is a number: `{:3}` of `Shown(5u8)` writes
+/// A width, a fill and a precision work as for a `&str`, even if the part is a number: `{:3}` of `Shown(5u8)` writes
 /// `5` and two spaces, and `{:03}` does the same. For zeros write the number without `Shown`, such as `{:03}` of
 /// `Hex(5u8)`.
 ///

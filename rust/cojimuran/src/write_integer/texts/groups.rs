@@ -33,8 +33,8 @@ use crate::num::format::NumberFormat;
 ///
 /// # Not checked
 ///
-/// Rust checks neither that the count is above 0, nor, if the format has no groups, that the buffer has as many bytes.
-/// Otherwise the call returns the count, and writes nothing.
+/// Two conditions are not checked: that the count is above 0, and, if the format has no groups, that the buffer has as
+/// many bytes. If one of them does not hold, the call returns the count, and writes nothing.
 #[inline]
 pub fn group_digits(count: usize, format: &NumberFormat, buffer: &mut [u8]) -> usize {
     let Some((size, mark)) = format.digit_grouping() else {
