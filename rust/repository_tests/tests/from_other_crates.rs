@@ -6,8 +6,9 @@
 mod number_of_128_bits;
 
 use cojimuran::{
-    BUFFER_SIZE, Binary, Buffer, Digits, Displayed, Fixed, Formatted, FormattedSize, Hex, Lower, NumberFormat,
-    NumberFormatBuilder, Options, Padded, Part, Plus, Right, Show, Shown, ToLexical, ToLexicalWithOptions, ZeroPadded,
+    BUFFER_SIZE, Binary, Buffer, Center, Digits, Displayed, Fixed, Formatted, FormattedSize, Hex, Left, Lower,
+    NumberFormat, NumberFormatBuilder, Options, Padded, Part, Plus, Right, Show, Shown, ToLexical,
+    ToLexicalWithOptions, ZeroPadded,
 };
 use number_of_128_bits::{format_i128, format_u128};
 use std::io::Write;
@@ -36,6 +37,12 @@ fn from_format_and_write() -> std::io::Result<()> {
     assert_eq!(ZeroPadded(a, 6).to_str(&mut buffer), format!("{a:06}"));
     assert_eq!(Padded(number, 6).to_str(&mut buffer), format!("{number:06}"));
     assert_eq!(Right(number, 8, b' ').to_str(&mut buffer), format!("{number:>8}"));
+    assert_eq!(Left(number, 8, b' ').to_str(&mut buffer), format!("{number:<8}"));
+    assert_eq!(Center(number, 8, b' ').to_str(&mut buffer), format!("{number:^8}"));
+    let name = "shoe";
+    assert_eq!(Left(name, 8, b' ').to_str(&mut buffer), format!("{name:<8}"));
+    let name = "Zoë";
+    assert_eq!(format!("{:<8}", Shown(name)), format!("{name:<8}"));
     assert_eq!(Hex(number).to_str(&mut buffer), format!("{number:X}"));
     assert_eq!(Lower(Hex(number)).to_str(&mut buffer), format!("{number:x}"));
     let number = -1i32;

@@ -1,8 +1,8 @@
 //! What is written, and where to. Each loop is a function of its own for each case and each call, so none is shared.
 
 use cojimuran::{
-    Append, Digits, Hex, Lower, NumberFormat, NumberFormatBuilder, Options, Part, Show, Shown, ToLexical,
-    ToLexicalWithOptions,
+    Append, Digits, Hex, Lower, NumberFormat, NumberFormatBuilder, Options, Padded, Part, Right, Show, Shown,
+    ToLexical, ToLexicalWithOptions,
 };
 use std::fmt::Write as _;
 use std::hint::black_box;
@@ -11,8 +11,6 @@ use std::io::Write;
 /// A text with a number.
 pub trait Case {
     const NAME: &str;
-    /// The length of the longest text.
-    const ROOM: usize;
 
     /// Writes the text to a buffer, and returns its length.
     fn write(number: u64, buffer: &mut [u8]) -> usize;
@@ -31,18 +29,17 @@ pub trait Case {
     }
 }
 
-/// Makes a case of its name, its room, a call that writes the text, and the part. What `write!` takes for the same text
+/// Makes a case of its name, a call that writes the text, and the part. What `write!` takes for the same text
 /// follows, if the standard library has it.
 macro_rules! case {
     (
-        $case:ident, $name:literal, $room:expr, |$number:ident, $buffer:ident| $call:expr, $part:expr
+        $case:ident, $name:literal, |$number:ident, $buffer:ident| $call:expr, $part:expr
         $(; $($text:tt)+)?
     ) => {
         pub struct $case;
 
         impl Case for $case {
             const NAME: &str = $name;
-            const ROOM: usize = $room;
 
             #[inline(always)]
             fn write($number: u64, $buffer: &mut [u8]) -> usize {
@@ -76,17 +73,41 @@ fn to_lexical(number: u64, buffer: &mut [u8], format: &NumberFormat) -> usize {
     number.to_lexical_with_options(buffer, format, &Options::new()).len()
 }
 
-/// Returns a line, of at most 3 + 20 + 9 + 4 + 1 bytes.
+/// Returns a line of numbers.
 #[inline(always)]
 fn line(number: u64) -> impl Show {
     ("id=", number, " flags=0x", Hex(number as u16), "\n")
 }
 
-case! { Decimal, "decimal", 20, |n, b| n.to_lexical(b).len(), n; "{n}" }
-case! { Hexadecimal, "radix 16", 16, |n, b| to_lexical(n, b, &RADIX_16), Hex(n); "{n:X}" }
-case! { Lowercase, "radix 16, lowercase", 16, |n, b| Lower(Hex(n)).write_to(b), Lower(Hex(n)); "{n:x}" }
-case! { Radix36, "radix 36", 13, |n, b| to_lexical(n, b, &RADIX_36), Digits(36, n) }
-case! { Line, "`id=N flags=0xN`", 37, |n, b| line(n).write_to(b), line(n); "id={n} flags=0x{:X}\n", n as u16 }
+/// Names of several lengths.
+const NAMES: [&str; 4] = ["Ada", "Grace Hopper", "Emmy Noether", "Sofia"];
+
+fn name(number: u64) -> &'static str {
+    NAMES[number as usize % 4]
+}
+
+/// Returns a line of strings.
+#[inline(always)]
+fn names(number: u64) -> impl Show {
+    ("first=", name(number), " second=", name(number / 4), "\n")
+}
+
+/// Returns a number of at most six digits.
+fn short(number: u64) -> u64 {
+    number % 1_000_000
+}
+
+case! { Decimal, "decimal", |n, b| n.to_lexical(b).len(), n; "{n}" }
+case! { Hexadecimal, "radix 16", |n, b| to_lexical(n, b, &RADIX_16), Hex(n); "{n:X}" }
+case! { Lowercase, "radix 16, lowercase", |n, b| Lower(Hex(n)).write_to(b), Lower(Hex(n)); "{n:x}" }
+case! { Radix36, "radix 36", |n, b| to_lexical(n, b, &RADIX_36), Digits(36, n) }
+case! { Zeros, "six digits with zeros", |n, b| Padded(short(n), 6).write_to(b), Padded(short(n), 6); "{:06}", short(n) }
+case! { Column, "a column", |n, b| Right(n, 24, b' ').write_to(b), Right(n, 24, b' '); "{n:>24}" }
+case! { Line, "`id=N flags=0xN`", |n, b| line(n).write_to(b), line(n); "id={n} flags=0x{:X}\n", n as u16 }
+case! {
+    Names, "`first=S second=S`", |n, b| names(n).write_to(b), names(n);
+    "first={} second={}\n", name(n), name(n / 4)
+}
 
 /// Returns whether the package writes what the standard library writes, if that has such a text.
 pub fn is_same<C: Case>(number: u64) -> bool {
@@ -110,7 +131,7 @@ pub enum Target {
 pub const TARGETS: [(Target, &str); 6] = [
     (Target::Array, "an array"),
     (Target::Slice, "a slice"),
-    (Target::Vector, "a `Vec`"),
+    (Target::Vector, "`append_to` a `Vec`"),
     (Target::Append, "`append_to` a `String`"),
     (Target::Pieces, "`write_pieces` to it"),
     (Target::Format, "`{}` to it"),
@@ -125,12 +146,7 @@ pub fn write_all<C: Case>(target: Target, numbers: &[u64]) -> usize {
     match target {
         Target::Array => to_array(numbers, |number, buffer| C::write(number, buffer)),
         Target::Slice => to_slice(numbers, black_box(&mut [0; SIZE]), |number, buffer| C::write(number, buffer)),
-        Target::Vector => to_vector(numbers, |number, bytes| {
-            let start = bytes.len();
-            bytes.resize(start + C::ROOM, 0);
-            let count = C::write(number, &mut bytes[start..]);
-            bytes.truncate(start + count);
-        }),
+        Target::Vector => to_vector(numbers, |number, bytes| C::part(number).append_to(bytes)),
         Target::Append => to_string(numbers, |number, text| C::part(number).append_to(text)),
         Target::Pieces => to_string(numbers, |number, text| _ = C::part(number).write_pieces(text)),
         Target::Format => to_string(numbers, |number, text| _ = write!(text, "{}", Shown(C::part(number)))),

@@ -4,7 +4,8 @@
 mod cases;
 
 use cases::{
-    Case, Decimal, Hexadecimal, Line, Lowercase, Radix36, TARGETS, Target, is_same, write_all, write_all_by_std,
+    Case, Column, Decimal, Hexadecimal, Line, Lowercase, Names, Radix36, TARGETS, Target, Zeros, is_same, write_all,
+    write_all_by_std,
 };
 use std::hint::black_box;
 use std::io::IsTerminal;
@@ -51,8 +52,17 @@ fn row<C: Case>() -> Row {
     Row { name: C::NAME, is_same: is_same::<C>, ours: write_all::<C>, std: has_std.then_some(write_all_by_std::<C>) }
 }
 
-fn rows() -> [Row; 5] {
-    [row::<Decimal>(), row::<Hexadecimal>(), row::<Lowercase>(), row::<Radix36>(), row::<Line>()]
+fn rows() -> [Row; 8] {
+    [
+        row::<Decimal>(),
+        row::<Hexadecimal>(),
+        row::<Lowercase>(),
+        row::<Radix36>(),
+        row::<Zeros>(),
+        row::<Column>(),
+        row::<Line>(),
+        row::<Names>(),
+    ]
 }
 
 /// The best of some times, and how much the median is above it, in nanoseconds of a number.
