@@ -210,6 +210,7 @@ pub mod costs {}
 /// A page, not a module: what to change in a program that uses another crate or `format!`.
 ///
 /// [room]: crate::conditions#how-long-a-buffer-must-be
+/// [time]: crate::costs#time
 #[cfg(doc)]
 #[doc = include_str!("../FROM_OTHER_CRATES.md")]
 pub mod from_other_crates {}

@@ -92,6 +92,12 @@ fn names(number: u64) -> impl Show {
     ("first=", name(number), " second=", name(number / 4), "\n")
 }
 
+/// Returns a number in a radix that is known only at run time, which is 36.
+#[inline(always)]
+fn any_radix(number: u64) -> Digits<u64> {
+    Digits(black_box(36), number)
+}
+
 /// Returns a number of at most six digits.
 fn short(number: u64) -> u64 {
     number % 1_000_000
@@ -101,6 +107,7 @@ case! { Decimal, "decimal", |n, b| n.to_lexical(b).len(), n; "{n}" }
 case! { Hexadecimal, "radix 16", |n, b| to_lexical(n, b, &RADIX_16), Hex(n); "{n:X}" }
 case! { Lowercase, "radix 16, lowercase", |n, b| Lower(Hex(n)).write_to(b), Lower(Hex(n)); "{n:x}" }
 case! { Radix36, "radix 36", |n, b| to_lexical(n, b, &RADIX_36), Digits(36, n) }
+case! { AnyRadix, "radix 36 at run time", |n, b| any_radix(n).write_to(b), any_radix(n) }
 case! { Zeros, "six digits with zeros", |n, b| Padded(short(n), 6).write_to(b), Padded(short(n), 6); "{:06}", short(n) }
 case! { Column, "a column", |n, b| Right(n, 24, b' ').write_to(b), Right(n, 24, b' '); "{n:>24}" }
 case! { Line, "`id=N flags=0xN`", |n, b| line(n).write_to(b), line(n); "id={n} flags=0x{:X}\n", n as u16 }
