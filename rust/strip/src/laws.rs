@@ -2,7 +2,7 @@
 
 use crate::counters::COUNTERS;
 use crate::items::{Function, Names, after_type_arguments, elements};
-use crate::tokens::{Token, has_mutable_reference, opening, words};
+use crate::tokens::{Token, has_mutable_reference, opening};
 
 /// The functions that the arguments of laws call. They change nothing, so they are left out with the call of the law.
 const WITHOUT_EFFECT: [&str; 6] = ["as_bytes", "as_u64", "exponent_radix", "from", "from_radix", "mantissa_radix"];
@@ -10,13 +10,18 @@ const WITHOUT_EFFECT: [&str; 6] = ["as_bytes", "as_u64", "exponent_radix", "from
 /// What a statement that is only a call does not have.
 const EFFECTS: [&str; 5] = ["?", "!", "=", "{", "return"];
 
+/// Returns whether two tokens are of a macro, such as `prove!` or `unreachable!`, or end the process.
+fn may_end_call(pair: &[Token]) -> bool {
+    pair[0].is_word() && pair[1] == "!" || pair[0].is_in(&["exit", "abort"])
+}
+
 /// Returns what a function does that no law does, or `None`.
 pub(crate) fn effect(tokens: &[Token], function: &Function) -> Option<&'static str> {
     let is_counter = |element: &[Token]| element.iter().any(|token| token.is_in(&COUNTERS));
     let changes = |element: &[Token]| has_mutable_reference(element) && !is_counter(element);
     if !function.result(tokens).is_empty() {
         Some("returns something")
-    } else if words(&tokens[function.inside(tokens)]).contains("prove !") {
+    } else if tokens[function.inside(tokens)].windows(2).any(may_end_call) {
         Some("asserts something")
     } else if elements(tokens, function.parameters).iter().any(|each| changes(&tokens[each.clone()])) {
         Some("changes something")

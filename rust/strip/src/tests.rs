@@ -113,6 +113,8 @@ fn a_law_that_does_more_or_has_a_namesake_is_refused() {
     for (number, (a, b, error)) in [
         ("fn law() -> u8 { 1 }", "", "crates/a/src/lib.rt:1: law is listed as a law, and returns something"),
         ("fn law() { prove!(a) }", "", "crates/a/src/lib.rt:1: law is listed as a law, and asserts something"),
+        ("fn law() { unreachable!() }", "", "crates/a/src/lib.rt:1: law is listed as a law, and asserts something"),
+        ("fn law() { process::exit(1) }", "", "crates/a/src/lib.rt:1: law is listed as a law, and asserts something"),
         ("fn law(a: &mut u8) {}", "", "crates/a/src/lib.rt:1: law is listed as a law, and changes something"),
         ("fn law<'b>(a: &'b mut u8) {}", "", "crates/a/src/lib.rt:1: law is listed as a law, and changes something"),
         ("fn law() {}", "fn law() { f() }", "crates/b/src/lib.rt: law is also the name of a law"),
