@@ -21,7 +21,7 @@ type Distribution = fn(&mut dyn FnMut() -> u64) -> u64;
 /// The numbers of a pass: small, of any length in bits, and of any value.
 const DISTRIBUTIONS: [(Distribution, &str); 3] = [
     (|random| random() % 1000, "below 1000"),
-    (|random| random() >> (random() % 64), "of 1 to 64 bits"),
+    (|random| (random() | 1 << 63) >> (random() % 64), "of 1 to 64 bits"),
     (|random| random(), "of 64 bits"),
 ];
 
@@ -146,7 +146,7 @@ mod tests {
         let [small, of_any_length, of_any_value] = DISTRIBUTIONS.map(|(distribution, _)| numbers(distribution));
         let lengths = |numbers: &[u64]| numbers.iter().map(|n| u64::BITS - n.leading_zeros()).collect::<Vec<_>>();
         assert!((990..1000).contains(small.iter().max().unwrap()));
-        assert!((1..64).all(|bits| lengths(&of_any_length).contains(&bits)));
+        assert!((1..=64).all(|bits| lengths(&of_any_length).contains(&bits)) && !of_any_length.contains(&0));
         assert!(lengths(&of_any_value).iter().min() > Some(&48));
         assert_eq!([small, of_any_length, of_any_value].map(|numbers| numbers.len()), [COUNT; 3]);
     }

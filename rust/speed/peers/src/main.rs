@@ -19,6 +19,12 @@ fn print_table(with_instructions: bool) {
     let numbers = numbers(None);
     println!("| what is written | cojimuran | others |\n|---|---|---|");
     for (index, row) in rows().iter().enumerate() {
+        let lengths: Vec<usize> = row.loops().iter().map(|each| each(&numbers)).collect();
+        assert!(
+            lengths.iter().all(|length| *length == lengths[0]),
+            "{}: texts of other lengths: {lengths:?}",
+            row.name
+        );
         let times = times(&row.loops(), &numbers).into_iter().enumerate();
         let mut cells = times.map(|(column, time)| match with_instructions {
             true => format!("{time:.1} ({:.0})", instructions(index, column, None)),

@@ -47,23 +47,13 @@ fn row(name: &'static str, here: Loop, others: &[(&'static str, Loop)]) -> Row {
 
 const THOUSANDS: NumberFormat = NumberFormatBuilder::new().digit_grouping(3, b',').build_strict();
 
-const RADICES: [NumberFormat; 37] = {
-    let mut formats = [NumberFormatBuilder::from_radix(10); 37];
-    let mut radix = 2;
-    while radix <= 36 {
-        formats[radix as usize] = NumberFormatBuilder::from_radix(radix);
-        radix += 1;
-    }
-    formats
-};
-
 /// Returns the loops of this package and of `lexical-write-integer` in a radix.
 macro_rules! loops_in_radix {
     ($radix:literal) => {{
         const FORMAT: u128 = lexical::NumberFormatBuilder::from_radix($radix);
         (
             loop_with_buffer!(u64, |n, b| n
-                .to_lexical_with_options(&mut b, const { &RADICES[$radix] }, &Options::new())
+                .to_lexical_with_options(&mut b, const { &NumberFormatBuilder::from_radix($radix) }, &Options::new())
                 .len()),
             loop_with_buffer!(u64, |n, b| {
                 let options = lexical::Options::new();
@@ -168,10 +158,10 @@ fn with_format_into(row: Row) -> Row {
 }
 
 fn rows_of_lines() -> Vec<Row> {
-    let shown = loop_with_buffer!(u64, |n, b| write!(&mut b[..], "{}", Decimal(n)).map_or(0, |()| 1));
+    let shown = loop_by_write!(u64, |n| "{}", Decimal(n));
     let str_line = loop_with_buffer!(u64, |n, b| line(n).to_str(&mut b).len());
     let write_line = loop_by_write!(u64, |n| "id={n} flags=0x{:X}", n as u16);
-    let shown_line = loop_with_buffer!(u64, |n, b| write!(&mut b[..], "{}", Shown(line(n))).map_or(0, |()| 1));
+    let shown_line = loop_by_write!(u64, |n| "{}", Shown(line(n)));
     let vec = loop_to_vec!(u64, |n, bytes| bytes.extend_from_slice(n.to_lexical(&mut [0; 20])));
     let vec_by_others = [
         (
