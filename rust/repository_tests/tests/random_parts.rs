@@ -3,8 +3,8 @@
 //! many.
 
 use cojimuran::*;
-use cojimuran::{NumberFormat, NumberFormatBuilder};
 use repository_tests::random::Random;
+use std::fmt::Debug;
 use std::thread;
 
 const THOUSANDS: NumberFormat = NumberFormatBuilder::new().digit_grouping(3, b',').build_strict();
@@ -23,27 +23,28 @@ trait Tried {
     fn try_part(self, random: &mut Random);
 }
 
-impl<P: Show> Tried for P {
+impl<P: Show + Debug> Tried for P {
     fn try_part(self, random: &mut Random) {
         let mut buffer = vec![b'?'; self.room() + 2];
         let length = self.write_to(&mut buffer);
-        assert_eq!(self.text_len(), Some(length));
-        assert!(length <= self.room() && buffer[length..].iter().all(|byte| *byte == b'?'));
+        assert_eq!(self.text_len(), Some(length), "{self:?}");
+        assert!(length <= self.room() && buffer[length..].iter().all(|byte| *byte == b'?'), "{self:?}");
         let fits = self.room() <= 256 || length == self.room();
         let mut exact = vec![b'?'; length];
-        assert_eq!(self.try_write_to(&mut exact), fits.then_some(length));
-        assert!(if fits { exact == buffer[..length] } else { exact.iter().all(|byte| *byte == b'?') });
+        assert_eq!(self.try_write_to(&mut exact), fits.then_some(length), "{self:?}");
+        let is_right = if fits { exact == buffer[..length] } else { exact.iter().all(|byte| *byte == b'?') };
+        assert!(is_right, "{self:?}");
         if let Some(short) = length.checked_sub(1) {
             let mut shorter = vec![b'?'; short];
-            assert_eq!(self.try_write_to(&mut shorter), None);
-            assert_eq!(self.try_to_str(&mut shorter), None);
-            assert!(shorter.iter().all(|byte| *byte == b'?'));
+            assert_eq!(self.try_write_to(&mut shorter), None, "{self:?}");
+            assert_eq!(self.try_to_str(&mut shorter), None, "{self:?}");
+            assert!(shorter.iter().all(|byte| *byte == b'?'), "{self:?}");
         }
         let text = std::str::from_utf8(&buffer[..length]).unwrap();
         if random.below(8) == 0 {
             let width = random.below(300) as usize;
-            assert_eq!(Shown(self).to_string(), text);
-            assert_eq!(format!("{:é^width$.9}", Shown(self)), format!("{text:é^width$.9}"));
+            assert_eq!(Shown(self).to_string(), text, "{self:?}");
+            assert_eq!(format!("{:é^width$.9}", Shown(self)), format!("{text:é^width$.9}"), "{self:?}");
         }
     }
 }
@@ -80,7 +81,7 @@ fn leaf(random: &mut Random, level: u8) {
 
 // A part is in others by reference, because a reference is written by a call: so rustc compiles its code once.
 
-fn node<P: Show>(part: &P, random: &mut Random, level: u8) {
+fn node<P: Show + Debug>(part: &P, random: &mut Random, level: u8) {
     let width = random.below(30) as usize;
     let is_there = random.below(2) == 0;
     match random.below(if level == 0 { 1 } else { 9 }) {
@@ -96,7 +97,7 @@ fn node<P: Show>(part: &P, random: &mut Random, level: u8) {
     }
 }
 
-fn inner<P: Show>(part: &P, random: &mut Random, level: u8) {
+fn inner<P: Show + Debug>(part: &P, random: &mut Random, level: u8) {
     let width = random.below(90) as usize;
     match random.below(if level == 1 { 1 } else { 5 }) {
         0 => part.try_part(random),
