@@ -2,7 +2,6 @@
 //! some others, in each width up to three more than the text.
 
 use cojimuran::*;
-use cojimuran::{NumberFormat, NumberFormatBuilder};
 use repository_tests::check_formats;
 use repository_tests::formats::is_refused;
 use std::fmt::{Display, Write};
