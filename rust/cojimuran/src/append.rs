@@ -35,10 +35,11 @@ pub trait Append: Show {
     /// Appends the text to a `Vec<u8>` or a `String`. The part must be valid, and for a `String` its text must be
     /// UTF-8, as [`to_str`](crate::Part::to_str) says.
     ///
-    /// If the [`room`](crate::Part::room) of the part is at most 256 bytes, the text is written in one piece, and the
-    /// target grows by its length. Otherwise a `String` gets it in pieces, as by
-    /// [`write_pieces`](Show::write_pieces), and a `Vec` must have, or gets, the room. A `String` also gets a text in
-    /// pieces if a [`Displayed`](crate::Displayed), a reference to a `String` or a part of your own is in it.
+    /// A text that can have at most 256 bytes is written in one piece, and the target grows by its length. (A number
+    /// counts with the longest text of its type in its radix.) A longer one goes to a `String` in pieces, as by
+    /// [`write_pieces`](Show::write_pieces), and for a `Vec` its whole [`room`](crate::Part::room) may be reserved. A
+    /// `String` also gets a text in pieces if a [`Displayed`](crate::Displayed), a reference to a `String` or a part of
+    /// your own is in it.
     ///
     /// # Panics
     ///
@@ -87,10 +88,23 @@ mod sealed {
 /// The largest room of a part that is written to an array first.
 const MOST_AT_ONCE: usize = 256;
 
+/// Returns a number of bytes that is enough for the text, and counts no digits for it if an array is large enough.
+#[track_caller]
+#[cfg_attr(not(debug_assertions), inline(always))]
+fn enough_room<P: Show>(part: P) -> usize {
+    if part.is_known_valid_and_utf8(Sealed) {
+        let bound = part.room_bound(Sealed);
+        if bound <= MOST_AT_ONCE {
+            return bound;
+        }
+    }
+    part.room()
+}
+
 impl AppendTarget for Vec<u8> {
     #[cfg_attr(not(debug_assertions), inline(always))]
     fn append_part<P: Show>(&mut self, part: P) {
-        let (start, room) = (self.len(), part.room());
+        let (start, room) = (self.len(), enough_room(part));
         if room <= MOST_AT_ONCE && self.capacity() - start < room {
             self.extend_from_slice(part.to_text(&mut [0; MOST_AT_ONCE]));
             return;
@@ -105,7 +119,7 @@ impl AppendTarget for String {
     #[cfg_attr(not(debug_assertions), inline(always))]
     fn append_part<P: Show>(&mut self, part: P) {
         // Other texts go out in pieces: each of these is a `&str` already, and a `Displayed` is formatted only once.
-        if part.is_known_valid_and_utf8(Sealed) && part.room() <= MOST_AT_ONCE {
+        if part.is_known_valid_and_utf8(Sealed) && part.room_bound(Sealed) <= MOST_AT_ONCE {
             self.push_str(part.to_str(&mut [0; MOST_AT_ONCE]));
             return;
         }

@@ -1,6 +1,8 @@
 //! What the package has by hand: the ends of a `Vec` and of a `String`, values with `Display`, and owned strings.
 
-use cojimuran::{Append, Bytes, Center, Displayed, Joined, Left, Lower, Padded, Part, Right, Show, Shown, ZeroPadded};
+use cojimuran::{
+    Append, Bytes, Center, Digits, Displayed, Joined, Left, Lower, Padded, Part, Right, Show, Shown, ZeroPadded,
+};
 use std::borrow::Cow;
 use std::cell::Cell;
 use std::fmt::{self, Write};
@@ -27,6 +29,13 @@ fn ends_of_strings_and_vectors() {
             assert_eq!(bytes, expected.as_bytes());
         }
     }
+    // The room of these digits is 39 bytes, but 20 numbers of 64 bits can have 279.
+    let digits = [Digits(36, 7u64); 20];
+    let expected = ["7"; 20].join(",");
+    let (mut string, mut bytes) = (String::new(), Vec::new());
+    Joined(&digits, ",").append_to(&mut string);
+    Joined(&digits, ",").append_to(&mut bytes);
+    assert_eq!((string.as_str(), bytes.as_slice()), (expected.as_str(), expected.as_bytes()));
 }
 
 /// A child process runs this test again with the name of a variable, since the process that runs out of memory aborts.
@@ -47,11 +56,11 @@ fn a_vector_without_memory_aborts() {
 
 #[test]
 fn only_what_the_text_needs_is_reserved() {
-    let row = (1u64, ",", 2u64);
+    let row = (1u64, ",", Digits(2, 2u64));
     let (mut string, mut bytes) = (String::new(), Vec::new());
     row.append_to(&mut string);
     row.append_to(&mut bytes);
-    assert_eq!((string.as_str(), bytes.as_slice()), ("1,2", b"1,2".as_slice()));
+    assert_eq!((string.as_str(), bytes.as_slice()), ("1,10", b"1,10".as_slice()));
     // The least that the standard library reserves.
     assert_eq!((string.capacity(), bytes.capacity()), (8, 8));
 }
