@@ -55,6 +55,27 @@ size_t to_chars(uint64_t value)
     return size_t(std::to_chars(buffer, buffer + sizeof buffer, static_cast<T>(value), radix).ptr - buffer);
 }
 
+// A radix that the compiler does not know.
+template <int radix>
+int variable()
+{
+    static volatile int variable = radix;
+    return variable;
+}
+
+template <int radix>
+size_t lexical_in_variable(uint64_t value)
+{
+    const lexical_format format = { static_cast<uint32_t>(variable<radix>()), 0, 0, 0, 1, { 0, 0 } };
+    return lexical_write(value, &format, buffer, sizeof buffer);
+}
+
+template <int radix>
+size_t to_chars_in_variable(uint64_t value)
+{
+    return size_t(std::to_chars(buffer, buffer + sizeof buffer, value, variable<radix>()).ptr - buffer);
+}
+
 #if __has_include(<fmt/compile.h>)
 size_t format_int(uint64_t value)
 {
@@ -122,6 +143,10 @@ int main()
         { "`u64`, groups of 3", u64, { lexical<10, 0, 3>, nullptr, nullptr, group_digits }, {} },
         { "`u64`, radix 36", u64, { lexical<36, 0>, nullptr, nullptr, nullptr }, {} },
         { "`u64`, radix 36, lowercase", u64, { lexical<36, 1>, to_chars<36>, nullptr, nullptr }, {} },
+        { "`u64`, radix 36, lowercase, in a variable", u64,
+          { lexical_in_variable<36>, to_chars_in_variable<36>, nullptr, nullptr }, {} },
+        { "`u64`, radix 4, in a variable", u64,
+          { lexical_in_variable<4>, to_chars_in_variable<4>, nullptr, nullptr }, {} },
         { "`i32`, `lexical_decimal`", i32,
           { decimal<int32_t>, to_chars<10, int32_t>, PRINTF(int32_t, "%" PRId32), FMT(int32_t, "{}") }, {} },
         { "`i32`, with a `+`", i32,

@@ -202,8 +202,9 @@ size_t lexical_decimal_i64(int64_t value, char *buffer, size_t size) LEXICAL_NOE
  * bits, so that a wrong radix such as 266 is refused and not truncated to 10.
  *
  * In C89, and in C++ before C++20, write the fields in their order, { 10, 0, 3, ',' }, or
- * initialize a variable with LEXICAL_RADIX(10), and then set its fields. The fields of a
- * variable without an initializer have no certain values in C, and in C++ before C++14.
+ * initialize a variable with LEXICAL_RADIX(10), and then set its fields. (-Wextra warns of
+ * fields that are left out of such a list.) Initialize each format: otherwise the fields of a
+ * local variable have no certain values, and from C++14 on its radix has none.
  *
  * From C++14 on, each field after the radix has the default value 0, so the default
  * constructor is not trivial. To clear a format write `format = {}`, because g++ warns of
