@@ -183,13 +183,17 @@ mod misuse;
 /// | `u128` is not an unsigned integer type, or `to_str` exists for `Hex<u128>`, but its trait bounds were not satisfied | `Displayed(&number)`, or in hexadecimal `Displayed(&format_args!("{number:X}"))` |
 /// | `T` is not a part, for a type parameter with `T: ToLexical` | `Decimal(value)` |
 /// | a tuple of parts with more than 12 members is not a part | tuples in a tuple |
-/// | `(String, u8)` is not a part, or `to_str` exists for `(&str, &String)`, but its trait bounds were not satisfied | `string.as_str()`, or, with the feature `alloc`, `&string` |
+/// | `(String, u8)` is not a part, or `to_str` exists for `(&str, &String)`, but its trait bounds were not satisfied | `string.as_str()`, or, with the feature `alloc`, `&string`; for an `Rc<str>` `&*text` |
 /// | `to_str` exists for `Joined<'_, String>`, but its trait bounds were not satisfied | a list of `&str`: `Joined(&strings.iter().map(String::as_str).collect::<Vec<_>>(), ",")` |
 /// | `(u8, Option<String>)` is not a part | `option.as_deref()` |
 /// | `to_str` exists for `(&str, Shown<u8>)`, but its trait bounds were not satisfied | the part without `Shown` |
 /// | cannot borrow `buffer` as mutable more than once | a buffer for each text that you keep |
+/// | temporary value dropped while borrowed | the array in a variable of its own: `let mut buffer = [0; 64];` |
+/// | mismatched types, for `Joined(vector, ",")` or `Joined(iterator, ",")` | `Joined(&vector, ",")`; for an iterator a loop, or a vector of what it yields |
+/// | `NonZero<u64>` is not a part | `number.get()` |
 /// | no method named `write_pieces` | `use cojimuran::Show` |
 /// | `Stdout: std::fmt::Write` is not satisfied, or `File` or `Vec<u8>` in its place | `out.write_all(line.to_text(&mut buffer))`, or `write!(out, "{}", Shown(line))`; for a `Vec` also `line.append_to(&mut vec)` |
+/// | `?` couldn't convert the error to `std::io::Error` | `line.write_pieces(&mut text).map_err(std::io::Error::other)?` |
 /// | cannot call non-const method `<u64 as Part>::room` in constants | the sum of the rooms of the parts, from [a table](conditions#how-long-a-buffer-must-be) |
 /// | no method named `append_to`, or unresolved import `cojimuran::Append` | `use cojimuran::Append`, and the feature `alloc` |
 /// | `(&str, u8)` doesn't implement `Display` | `Shown((..))` |

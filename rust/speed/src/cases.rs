@@ -98,6 +98,12 @@ fn any_radix(number: u64) -> Digits<u64> {
     Digits(black_box(36), number)
 }
 
+/// Returns a number in one of seven radices that have about as many digits. The radix changes from call to call.
+#[inline(always)]
+fn changing_radix(number: u64) -> Digits<u64> {
+    Digits(30 + (number % 7) as u32, number)
+}
+
 /// Returns a number of at most six digits.
 fn short(number: u64) -> u64 {
     number % 1_000_000
@@ -108,6 +114,7 @@ case! { Hexadecimal, "radix 16", |n, b| to_lexical(n, b, &RADIX_16), Hex(n); "{n
 case! { Lowercase, "radix 16, lowercase", |n, b| Lower(Hex(n)).write_to(b), Lower(Hex(n)); "{n:x}" }
 case! { Radix36, "radix 36", |n, b| to_lexical(n, b, &RADIX_36), Digits(36, n) }
 case! { AnyRadix, "radix 36 at run time", |n, b| any_radix(n).write_to(b), any_radix(n) }
+case! { ChangingRadix, "radix 30 to 36 at run time", |n, b| changing_radix(n).write_to(b), changing_radix(n) }
 case! { Zeros, "six digits with zeros", |n, b| Padded(short(n), 6).write_to(b), Padded(short(n), 6); "{:06}", short(n) }
 case! { Column, "a column", |n, b| Right(n, 24, b' ').write_to(b), Right(n, 24, b' '); "{n:>24}" }
 case! { Line, "`id=N flags=0xN`", |n, b| line(n).write_to(b), line(n); "id={n} flags=0x{:X}\n", n as u16 }
