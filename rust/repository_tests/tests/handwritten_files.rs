@@ -7,10 +7,10 @@ use std::borrow::Cow;
 use std::cell::Cell;
 use std::fmt::{self, Write};
 use std::net::Ipv4Addr;
-#[cfg(target_pointer_width = "64")]
+#[cfg(target_arch = "x86_64")]
 use std::os::unix::process::ExitStatusExt;
 use std::panic::{AssertUnwindSafe, catch_unwind};
-#[cfg(target_pointer_width = "64")]
+#[cfg(target_arch = "x86_64")]
 use std::process::Command;
 
 #[test]
@@ -39,8 +39,8 @@ fn ends_of_strings_and_vectors() {
 }
 
 /// A child process runs this test again with the name of a variable, since the process that runs out of memory aborts.
-/// With pointers of 32 bits a machine may have the memory for every vector.
-#[cfg(target_pointer_width = "64")]
+/// With pointers of 32 bits a machine may have the memory for every vector, and an emulator cannot start a child.
+#[cfg(target_arch = "x86_64")]
 #[test]
 fn a_vector_without_memory_aborts() {
     const NAME: &str = "APPEND_WITHOUT_MEMORY";
