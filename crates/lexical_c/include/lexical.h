@@ -203,8 +203,8 @@ size_t lexical_decimal_i64(int64_t value, char *buffer, size_t size) LEXICAL_NOE
  *
  * In C89, and in C++ before C++20, write the fields in their order, { 10, 0, 3, ',' }, or
  * initialize a variable with LEXICAL_RADIX(10), and then set its fields. (-Wextra warns of
- * fields that are left out of such a list.) Initialize each format: otherwise the fields of a
- * local variable have no certain values, and from C++14 on its radix has none.
+ * fields that are left out of such a list.) Initialize each format: the fields of a local
+ * variable without an initializer are indeterminate, and from C++14 on its radix is.
  *
  * From C++14 on, each field after the radix has the default value 0, so the default
  * constructor is not trivial. To clear a format write `format = {}`, because g++ warns of
@@ -258,11 +258,11 @@ struct lexical_format {
  *
  *     const struct lexical_format hexadecimal = LEXICAL_RADIX(16);
  *
- * The radix may have any integer type of at most 64 bits except bool. Cast another type,
- * such as a double, because it is converted without a warning. If the radix is not from 2
- * to 36, the radix of the format is 0, which is invalid. An invalid radix that is an integer constant
- * expression is a compile error in C11 and later, and with gcc and clang also in older C and
- * in C++11 and later. The error mentions an array of a negative size, or -1.
+ * The radix may have any integer type of at most 64 bits except bool. Do not pass a double:
+ * it is truncated without a warning. If the radix is not from 2 to 36, the radix of the
+ * format is 0, which is invalid. An invalid radix that is an integer constant expression is
+ * a compile error in C11 and later, and with gcc and clang also in older C and in C++11 and
+ * later. The error mentions an array of a negative size, or -1.
  *
  * The radix is evaluated once, except in C before C11 with compilers other than gcc and
  * clang.
@@ -622,7 +622,8 @@ lexical_private_radix(uint64_t number) LEXICAL_NOEXCEPT
 #endif
 #elif defined(__GNUC__) || (defined(__STDC_VERSION__) && __STDC_VERSION__ >= 201112L)
 #if defined(__GNUC__)
-static __inline__ uint32_t
+/* It is always inlined, and not static, so that a C inline function may use it. */
+extern __inline__ __attribute__((__gnu_inline__, __always_inline__)) uint32_t
 #else
 static inline uint32_t
 #endif

@@ -30,6 +30,16 @@ static void check_text(size_t count, const char *wanted)
     check(count == strlen(wanted) && memcmp(buffer, wanted, count) == 0, wanted);
 }
 
+#ifndef __cplusplus
+/* A C function that is inline and not static may use nothing that is static. */
+inline size_t length_of_zero(uint32_t radix);
+inline size_t length_of_zero(uint32_t radix)
+{
+    const struct lexical_format format = LEXICAL_RADIX(radix);
+    return lexical_length_u32(0, radix == 10 ? &lexical_standard_format : &format);
+}
+#endif
+
 /*
  * DECLARE: a second declaration of a function, which compiles only if the header has the same type, and in C++11 and
  * later also noexcept. RADIX: the format of a radix as an argument. IN_CXX: a statement that only C++ has. NOEXCEPT:
