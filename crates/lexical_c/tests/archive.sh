@@ -38,8 +38,9 @@ explains_itself() {
 
 # Whether archive refuses flags of rustc that it cannot build with, before a linker complains of what it has made.
 refuses_flags() {
-  for RUSTFLAGS in -Clto=no '-g -C lto=off' -Copt-level=0 '-C opt-level=0' --codegen=panic=unwind \
-    -Clinker-plugin-lto -Clinker_plugin_lto '-C	lto=thin'; do
+  echo -Clinker-plugin-lto > "$work/flags"
+  for RUSTFLAGS in -Clto=no '-g -C lto=off' '-C	lto=thin' -Copt-level=0 '-C opt_level=0' --codegen=panic=unwind \
+    -Clinker-plugin-lto "@$work/flags"; do
     export RUSTFLAGS
     fails "$copy/rust/lexical_c/archive" --out "$work/none" 2> "$work/said" || stop "$RUSTFLAGS is refused"
     grep 'RUSTFLAGS must not have' "$work/said" || stop "why $RUSTFLAGS is refused: $(cat "$work/said")"
