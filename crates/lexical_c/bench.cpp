@@ -10,26 +10,47 @@
 #include <chrono>
 #include <cinttypes>
 #include <cstdio>
-#include <cstring>
+#include <functional>
 #include <random>
 #include <vector>
 #if __has_include(<fmt/compile.h>)
 #define FMT_HEADER_ONLY
 #include <fmt/compile.h>
 #define FMT(type, text) \
-    [](uint64_t value) { return size_t(fmt::format_to(buffer, FMT_COMPILE(text), static_cast<type>(value)) - buffer); }
+    timed([](uint64_t value) { \
+        return size_t(fmt::format_to(buffer, FMT_COMPILE(text), static_cast<type>(value)) - buffer); \
+    })
 #else
 #define FMT(type, text) nullptr
 #endif
 #define PRINTF(type, format) \
-    [](uint64_t value) { return size_t(std::snprintf(buffer, sizeof buffer, format, static_cast<type>(value))); }
+    timed([](uint64_t value) { return size_t(std::snprintf(buffer, sizeof buffer, format, static_cast<type>(value))); })
+// A template or a function that returns the length of what it writes.
+#define TIMED(...) timed([](uint64_t value) { return __VA_ARGS__(value); })
 
 namespace {
 
 char buffer[LEXICAL_BUFFER_SIZE];
-using Writer = size_t (*)(uint64_t);
 
-// Each writer is called by a pointer, as a function of a library is.
+// Returns the nanoseconds that each of these numbers takes.
+using Pass = std::function<double(const std::vector<uint64_t> &)>;
+
+// Returns a pass of a writer. What a header has is inlined in the loop, as it is in programs. The text is read.
+template <typename Writer>
+Pass timed(Writer writer)
+{
+    return [writer](const std::vector<uint64_t> &numbers) {
+        using clock = std::chrono::steady_clock;
+        auto start = clock::now();
+        for (uint64_t number : numbers) {
+            size_t count = writer(number);
+            asm volatile("" : : "r"(buffer), "r"(count) : "memory");
+        }
+        std::chrono::duration<double, std::nano> taken = clock::now() - start;
+        return taken.count() / static_cast<double>(numbers.size());
+    };
+}
+
 template <typename T>
 size_t decimal(uint64_t value)
 {
@@ -80,7 +101,7 @@ size_t to_chars_in_variable(uint64_t value)
 size_t format_int(uint64_t value)
 {
     fmt::format_int text(value);
-    asm volatile("" : : "r"(text.data()) : "memory");  // The text is read.
+    asm volatile("" : : "r"(text.data()) : "memory");
     return text.size();
 }
 
@@ -88,24 +109,15 @@ size_t group_digits(uint64_t value)
 {
     return size_t(fmt::format_to(buffer, FMT_COMPILE("{}"), fmt::group_digits(value)) - buffer);
 }
+const Pass pass_of_format_int = TIMED(format_int), pass_of_group_digits = TIMED(group_digits);
 #else
-const Writer format_int = nullptr, group_digits = nullptr;
+const Pass pass_of_format_int = nullptr, pass_of_group_digits = nullptr;
 #endif
-
-double nanoseconds(Writer writer, const std::vector<uint64_t> &numbers)
-{
-    using clock = std::chrono::steady_clock;
-    auto start = clock::now();
-    size_t written = 0;
-    for (uint64_t number : numbers) written += writer(number);
-    std::chrono::duration<double, std::nano> taken = clock::now() - start;
-    return written == 0 ? 0 : taken.count() / static_cast<double>(numbers.size());
-}
 
 struct Row {
     const char *name;
     const std::vector<uint64_t> &numbers;
-    Writer writers[4];
+    Pass passes[4];
     double best[4];
 };
 
@@ -128,34 +140,38 @@ int main()
     for (auto numbers : { &u64, &i32 }) std::shuffle(numbers->begin(), numbers->end(), std::mt19937_64());
     Row rows[] = {
         { "`u64`, `lexical_decimal`", u64,
-          { decimal<uint64_t>, to_chars<10>, PRINTF(uint64_t, "%" PRIu64), format_int }, {} },
+          { TIMED(decimal<uint64_t>), TIMED(to_chars<10>), PRINTF(uint64_t, "%" PRIu64), pass_of_format_int }, {} },
         { "`u64`, radix 10", u64,
-          { lexical<10, 0>, to_chars<10>, PRINTF(uint64_t, "%" PRIu64), FMT(uint64_t, "{}") }, {} },
-        { "`u64`, radix 2", u64, { lexical<2, 0>, to_chars<2>, nullptr, FMT(uint64_t, "{:b}") }, {} },
+          { TIMED(lexical<10, 0>), TIMED(to_chars<10>), PRINTF(uint64_t, "%" PRIu64), FMT(uint64_t, "{}") }, {} },
+        { "`u64`, radix 2", u64, { TIMED(lexical<2, 0>), TIMED(to_chars<2>), nullptr, FMT(uint64_t, "{:b}") }, {} },
         { "`u64`, radix 8", u64,
-          { lexical<8, 0>, to_chars<8>, PRINTF(uint64_t, "%" PRIo64), FMT(uint64_t, "{:o}") }, {} },
+          { TIMED(lexical<8, 0>), TIMED(to_chars<8>), PRINTF(uint64_t, "%" PRIo64), FMT(uint64_t, "{:o}") }, {} },
         { "`u64`, radix 16", u64,
-          { lexical<16, 0>, nullptr, PRINTF(uint64_t, "%" PRIX64), FMT(uint64_t, "{:X}") }, {} },
+          { TIMED(lexical<16, 0>), nullptr, PRINTF(uint64_t, "%" PRIX64), FMT(uint64_t, "{:X}") }, {} },
         { "`u64`, radix 16, lowercase", u64,
-          { lexical<16, 1>, to_chars<16>, PRINTF(uint64_t, "%" PRIx64), FMT(uint64_t, "{:x}") }, {} },
+          { TIMED(lexical<16, 1>), TIMED(to_chars<16>), PRINTF(uint64_t, "%" PRIx64), FMT(uint64_t, "{:x}") }, {} },
         { "`u64`, radix 16, buffer of 24 bytes", u64,
-          { lexical<16, 0, 0, 24>, nullptr, PRINTF(uint64_t, "%" PRIX64), FMT(uint64_t, "{:X}") }, {} },
-        { "`u64`, groups of 3", u64, { lexical<10, 0, 3>, nullptr, nullptr, group_digits }, {} },
-        { "`u64`, radix 36", u64, { lexical<36, 0>, nullptr, nullptr, nullptr }, {} },
-        { "`u64`, radix 36, lowercase", u64, { lexical<36, 1>, to_chars<36>, nullptr, nullptr }, {} },
+          { TIMED(lexical<16, 0, 0, 24>), nullptr, PRINTF(uint64_t, "%" PRIX64), FMT(uint64_t, "{:X}") }, {} },
+        { "`u64`, groups of 3", u64, { TIMED(lexical<10, 0, 3>), nullptr, nullptr, pass_of_group_digits }, {} },
+        { "`u64`, radix 36", u64, { TIMED(lexical<36, 0>), nullptr, nullptr, nullptr }, {} },
+        { "`u64`, radix 36, lowercase", u64, { TIMED(lexical<36, 1>), TIMED(to_chars<36>), nullptr, nullptr }, {} },
         { "`u64`, radix 36, lowercase, in a variable", u64,
-          { lexical_in_variable<36>, to_chars_in_variable<36>, nullptr, nullptr }, {} },
+          { TIMED(lexical_in_variable<36>), TIMED(to_chars_in_variable<36>), nullptr, nullptr }, {} },
+        { "`u64`, radix 16, lowercase, in a variable", u64,
+          { TIMED(lexical_in_variable<16>), TIMED(to_chars_in_variable<16>), nullptr, nullptr }, {} },
+        { "`u64`, radix 7, in a variable", u64,
+          { TIMED(lexical_in_variable<7>), TIMED(to_chars_in_variable<7>), nullptr, nullptr }, {} },
         { "`u64`, radix 4, in a variable", u64,
-          { lexical_in_variable<4>, to_chars_in_variable<4>, nullptr, nullptr }, {} },
+          { TIMED(lexical_in_variable<4>), TIMED(to_chars_in_variable<4>), nullptr, nullptr }, {} },
         { "`i32`, `lexical_decimal`", i32,
-          { decimal<int32_t>, to_chars<10, int32_t>, PRINTF(int32_t, "%" PRId32), FMT(int32_t, "{}") }, {} },
+          { TIMED(decimal<int32_t>), TIMED(to_chars<10, int32_t>), PRINTF(int32_t, "%" PRId32), FMT(int32_t, "{}") }, {} },
         { "`i32`, with a `+`", i32,
-          { with_sign, nullptr, PRINTF(int32_t, "%+" PRId32), FMT(int32_t, "{:+}") }, {} },
+          { TIMED(with_sign), nullptr, PRINTF(int32_t, "%+" PRId32), FMT(int32_t, "{:+}") }, {} },
     };
     for (int pass = 0; pass < 100; pass++)
         for (Row &row : rows)
             for (int i = 0; i < 4; i++) {
-                double taken = row.writers[i] == nullptr ? 0 : nanoseconds(row.writers[i], row.numbers);
+                double taken = row.passes[i] == nullptr ? 0 : row.passes[i](row.numbers);
                 if (pass == 0 || taken < row.best[i]) row.best[i] = taken;
             }
     std::puts("| number and format | lexical | `to_chars` | `snprintf` | {fmt} |\n|---|---|---|---|---|");
