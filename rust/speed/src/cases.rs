@@ -2,7 +2,7 @@
 
 use cojimuran::{
     Append, Digits, Hex, Lower, NumberFormat, NumberFormatBuilder, Options, Padded, Part, Right, Show, Shown,
-    ToLexical, ToLexicalWithOptions,
+    ToLexical, ToLexicalWithOptions, ZeroPadded,
 };
 use std::fmt::Write as _;
 use std::hint::black_box;
@@ -115,7 +115,12 @@ case! { Lowercase, "radix 16, lowercase", |n, b| Lower(Hex(n)).write_to(b), Lowe
 case! { Radix36, "radix 36", |n, b| to_lexical(n, b, &RADIX_36), Digits(36, n) }
 case! { AnyRadix, "radix 36 at run time", |n, b| any_radix(n).write_to(b), any_radix(n) }
 case! { ChangingRadix, "radix 30 to 36 at run time", |n, b| changing_radix(n).write_to(b), changing_radix(n) }
-case! { Zeros, "six digits with zeros", |n, b| Padded(short(n), 6).write_to(b), Padded(short(n), 6); "{:06}", short(n) }
+case! { Lowercase36, "radix 36, lowercase", |n, b| Lower(Digits(36, n)).write_to(b), Lower(Digits(36, n)) }
+case! { SixDigits, "six digits, `Padded`", |n, b| Padded(short(n), 6).write_to(b), Padded(short(n), 6); "{:06}", short(n) }
+case! {
+    Zeros, "six digits, `ZeroPadded`", |n, b| ZeroPadded(short(n), 6).write_to(b), ZeroPadded(short(n), 6);
+    "{:06}", short(n)
+}
 case! { Column, "a column", |n, b| Right(n, 24, b' ').write_to(b), Right(n, 24, b' '); "{n:>24}" }
 case! { Line, "`id=N flags=0xN`", |n, b| line(n).write_to(b), line(n); "id={n} flags=0x{:X}\n", n as u16 }
 case! {
