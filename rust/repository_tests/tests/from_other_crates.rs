@@ -63,9 +63,10 @@ fn from_itoa() {
     let (number, a, b) = (7u32, -1i64, 2i64);
     let (mut output, mut text, mut buffer) = (Vec::new(), String::new(), [0; 64]);
     assert_eq!(Buffer::new().format(number), "7");
+    output.extend_from_slice(Buffer::new().format(number).as_bytes());
     output.extend_from_slice(number.to_lexical(&mut buffer));
     text.push_str((a, ",", b).to_str(&mut buffer));
-    assert_eq!((output, text), (b"7".to_vec(), "-1,2".to_owned()));
+    assert_eq!((output, text), (b"77".to_vec(), "-1,2".to_owned()));
     fn text_of(value: impl ToLexical) -> String {
         Buffer::new().format(value).to_owned()
     }
