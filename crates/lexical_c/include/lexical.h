@@ -24,8 +24,8 @@
  *
  * These lines store the string "0x0000beef": a prefix, followed by a number in lowercase,
  * with zeros up to 8 digits. If count is then 0, the number or its zeros did not fit, and
- * the string is "0x". Use a prefix only with unsigned types, because a '-' would come
- * after it:
+ * the string is "0x". Use a prefix only with unsigned types and without required_sign,
+ * because a sign would come after it:
  *
  *     char prefixed[2 + LEXICAL_BUFFER_SIZE + 1] = "0x";
  *     count = lexical_write(48879u, LEXICAL_FORMAT(.radix = 16, .lowercase = 1),
@@ -202,9 +202,9 @@ size_t lexical_decimal_i64(int64_t value, char *buffer, size_t size) LEXICAL_NOE
  * bits, so that a wrong radix such as 266 is refused and not truncated to 10.
  *
  * In C89, and in C++ before C++20, write the fields in their order, { 10, 0, 3, ',' }, or
- * initialize a variable with LEXICAL_RADIX(10), and then set its fields. (-Wextra warns of
- * fields that are left out of such a list.) Initialize each format: the fields of a local
- * variable without an initializer are indeterminate, and from C++14 on its radix is.
+ * initialize a variable with LEXICAL_RADIX(10), and then set its fields. (In C, C++98 and
+ * C++11, -Wextra warns of fields that are left out of such a list.) Without an initializer
+ * a local variable has indeterminate fields, and from C++14 on an indeterminate radix.
  *
  * From C++14 on, each field after the radix has the default value 0, so the default
  * constructor is not trivial. To clear a format write `format = {}`, because g++ warns of
@@ -635,10 +635,10 @@ lexical_private_radix(uint64_t number)
  * Yields the first value if the number is an integer constant expression, and otherwise
  * the second. 0 times such an expression is a null pointer constant, so ?: has the type
  * int *. Otherwise it has the type void *. The result does not depend on what a compiler
- * optimizes. The number is not evaluated.
+ * optimizes. The number is not evaluated. (With a 0 for the 8, gcc may warn of equal branches.)
  */
 #define LEXICAL_PRIVATE_IF_CONSTANT(number, value, other)                      \
-    _Generic(1 ? (void *)((intptr_t)(number) * 0) : (int *)0, int *: (value), default: (other))
+    _Generic(1 ? (void *)((intptr_t)(number) * 0) : (int *)8, int *: (value), default: (other))
 /* A constant that is no radix is refused by an array of a negative size. A variable is
    evaluated once. */
 #define LEXICAL_PRIVATE_RADIX(number)                                          \
