@@ -1,8 +1,8 @@
-// Prints how long the library takes beside std::to_chars, snprintf, and {fmt} if it is there, in nanoseconds per number:
-// the best of 100 interleaved passes over 10,000 random numbers, which are shifted right so that each length in bits is
-// about as frequent. Their order is random, since a processor learns to predict lengths that follow a pattern. {fmt} has
-// format strings that are compiled (FMT_COMPILE), and in the first row fmt::format_int, which writes to a buffer of its
-// own.
+// Prints how long the library takes beside std::to_chars, snprintf, and {fmt} if it is there, in nanoseconds per
+// number: the best of 100 interleaved passes over 10,000 random numbers, which are shifted right so that each length in
+// bits is about as frequent. Their order is random, since a processor learns to predict lengths that follow a pattern.
+// {fmt} has format strings that are compiled (FMT_COMPILE), and in the first row fmt::format_int, which writes to a
+// buffer of its own.
 #include <lexical.h>
 
 #include <algorithm>

@@ -68,8 +68,8 @@ fn write_caseless_in_radix<T: CInteger>(value: T, format: &CFormat, buffer: &mut
     }
 }
 
-// Does what `write` does in a format that has only a radix and lowercase. `write_in_case` would test the case once more,
-// which takes five instructions of some sixty.
+// Does what `write` does in a format that has only a radix and lowercase. `write_in_case` would test the case once
+// more, which takes five instructions of some sixty.
 fn write_in_lowercase<T: CInteger>(value: T, format: &CFormat, buffer: &mut [u8]) -> usize
     requires only { HasOnlyRadixAndCase format.now }
     requires lowercase { format.now.lowercase ≢ 0 }

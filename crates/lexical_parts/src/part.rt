@@ -123,8 +123,8 @@ pub trait Part: Copy {
     }
 
     /// Writes the text to the buffer from `index` on, and returns the index after the text. Every other byte is
-    /// unchanged. The part must be valid, and the buffer must have `room` bytes or more from `index` on. (Fewer bytes [may
-    /// happen to be enough](crate::conditions#what-happens-otherwise).)
+    /// unchanged. The part must be valid, and the buffer must have `room` bytes or more from `index` on. (Fewer bytes
+    /// [may happen to be enough](crate::conditions#what-happens-otherwise).)
     ///
     /// # Panics
     ///

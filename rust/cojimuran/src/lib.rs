@@ -52,9 +52,9 @@
 //! | to move from the crate `lexical-write-integer`, with its names | [`ToLexical`] writes bytes in decimal, and [`ToLexicalWithOptions`] in a [`NumberFormat`]; [`Options`] has no fields; the modules [`compact`], [`decimal`], [`padded`] and [`radix`] write digits without a sign |
 //! | to write into a buffer at a place of your own | [`write_field`] and [`write_with_length`] for a header, [`padded::write_padded`] for a number over a whole buffer, [`compact::Compact`] for digits in little code, [`group_digits`], [`write_sign`] and [`sign_len`] for a writer of your own |
 //!
-//! These pages have the details: [when calls panic, and how long a buffer must be](conditions), [what they cost](costs),
-//! [what to write in place of another crate or `format!`](from_other_crates), and [what to write if a call does not
-//! compile](compile_errors).
+//! These pages have the details: [when calls panic, and how long a buffer must be](conditions), [what they
+//! cost](costs), [what to write in place of another crate or `format!`](from_other_crates), and [what to write if a
+//! call does not compile](compile_errors).
 //!
 //! # What is proved
 //!
@@ -95,8 +95,8 @@
 //!
 //! # Options in a format string
 //!
-//! Most parts have `Display`. A tuple, an `Option`, a [`Byte`], a [`Bytes`] and a [`Sign`] have none, and a part of your
-//! own has one only if you write it: print them by [`Shown`]. The others take these options:
+//! Most parts have `Display`. A tuple, an `Option`, a [`Byte`], a [`Bytes`] and a [`Sign`] have none, and a part of
+//! your own has one only if you write it: print them by [`Shown`]. The others take these options:
 //!
 //! - [`Decimal`], [`Plus`], [`Digits`], [`Hex`], [`FullHex`], [`Binary`], [`Formatted`], [`Fixed`], [`GroupedFixed`],
 //!   [`TrimmedFixed`], [`Padded`] and [`PaddedDigits`] take the width, the fill, the `+` and the `0` of an integer. `#`

@@ -116,7 +116,10 @@ case! { Radix36, "radix 36", |n, b| to_lexical(n, b, &RADIX_36), Digits(36, n) }
 case! { AnyRadix, "radix 36 at run time", |n, b| any_radix(n).write_to(b), any_radix(n) }
 case! { ChangingRadix, "radix 30 to 36 at run time", |n, b| changing_radix(n).write_to(b), changing_radix(n) }
 case! { Lowercase36, "radix 36, lowercase", |n, b| Lower(Digits(36, n)).write_to(b), Lower(Digits(36, n)) }
-case! { SixDigits, "six digits, `Padded`", |n, b| Padded(short(n), 6).write_to(b), Padded(short(n), 6); "{:06}", short(n) }
+case! {
+    SixDigits, "six digits, `Padded`", |n, b| Padded(short(n), 6).write_to(b), Padded(short(n), 6);
+    "{:06}", short(n)
+}
 case! {
     Zeros, "six digits, `ZeroPadded`", |n, b| ZeroPadded(short(n), 6).write_to(b), ZeroPadded(short(n), 6);
     "{:06}", short(n)

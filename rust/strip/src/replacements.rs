@@ -1,9 +1,9 @@
 //! What is written in Rattle, and what is written in its place.
 
 /// The rules of packages, crates, files (`CRATE/FILE`) and examples in documentation, or of everything if no name is
-/// there. Their order says nothing: at each place the longest rule counts, and what it writes is not read again. If most
-/// of them were missing, rustc, `tests/same_code` or the last check of `strip` would refuse what is left. The others,
-/// such as those of `#[cold]`, are for speed or comfort.
+/// there. Their order says nothing: at each place the longest rule counts, and what it writes is not read again. If
+/// most of them were missing, rustc, `tests/same_code` or the last check of `strip` would refuse what is left. The
+/// others, such as those of `#[cold]`, are for speed or comfort.
 pub(crate) const RULES: &[(&str, &[(&str, &str)])] = &[
     // The paths of the package for those of the crates. Below, `crate::` gets the module that is made of a crate.
     (
