@@ -17,9 +17,12 @@ keeps_released_names() {
 # Prints what the archive uses of the C library, and not what 32 bits also need of the compiler.
 imported_names() { names -u "$library" | grep -vx '_GLOBAL_OFFSET_TABLE_\|__u...di3' | tr '\n' ' '; }
 
-# Whether man finds the page by the name of each function, and shows it in 80 columns without a warning.
+# Whether man finds the page by the name of each function and each name at its top, and shows it in 80 columns without
+# a warning.
 shows_manual() {
-  for name in $wanted; do man -M "$prefix/share/man" -w "$name" || stop "the page of $name"; done
+  at_top=$(sed -n '/^lexical_write, /{ s/ \\-.*//; s/,//g; p; }' "$crate/package/lexical_write.3.in")
+  [ -n "$at_top" ] || stop 'the names at the top'
+  for name in $wanted $at_top; do man -M "$prefix/share/man" -w "$name" || stop "the page of $name"; done
   LC_ALL=C MANWIDTH=80 man -M "$prefix/share/man" --warnings "$name" > "$work/manual" 2> "$work/said" || stop 'man'
   grep SYNOPSIS "$work/manual" || stop 'the synopsis'
   fails grep '.\{81\}' "$work/manual" || stop 'lines of 80 columns'
