@@ -59,9 +59,9 @@
 //! # What is proved
 //!
 //! The sources are written in Rattle, a dialect of Rust with contracts, and each of their functions is proved: if its
-//! [conditions] hold, a call does not panic, and writes exactly the right bytes. The prover is not public. A program
-//! makes this Rust code from the sources, and the Rust code is tested, not proved. That `{}` and `write_pieces` succeed
-//! is also only tested. [`Displayed`] and what needs the feature `alloc` are written by hand.
+//! [conditions] hold, a call does not panic, and writes exactly the bytes of its contract. The prover is not public. A
+//! program makes this Rust code from the sources, and the Rust code is tested, not proved. That `{}` and `write_pieces`
+//! succeed is also only tested. [`Displayed`], what needs the feature `alloc`, and this page are written by hand.
 //!
 //! # What allocates
 //!

@@ -79,6 +79,12 @@ fn line(number: u64) -> impl Show {
     ("id=", number, " flags=0x", Hex(number as u16), "\n")
 }
 
+/// Returns a row of four numbers.
+#[inline(always)]
+fn row(number: u64) -> impl Show {
+    (number, ",", number ^ 1, ",", number ^ 2, ",", number ^ 3, "\n")
+}
+
 /// Names of several lengths.
 const NAMES: [&str; 4] = ["Ada", "Grace Hopper", "Emmy Noether", "Sofia"];
 
@@ -126,6 +132,7 @@ case! {
 }
 case! { Column, "a column", |n, b| Right(n, 24, b' ').write_to(b), Right(n, 24, b' '); "{n:>24}" }
 case! { Line, "`id=N flags=0xN`", |n, b| line(n).write_to(b), line(n); "id={n} flags=0x{:X}\n", n as u16 }
+case! { FourNumbers, "`N,N,N,N`", |n, b| row(n).write_to(b), row(n); "{n},{},{},{}\n", n ^ 1, n ^ 2, n ^ 3 }
 case! {
     Names, "`first=S second=S`", |n, b| names(n).write_to(b), names(n);
     "first={} second={}\n", name(n), name(n / 4)
@@ -160,7 +167,7 @@ pub const TARGETS: [(Target, &str); 6] = [
 ];
 
 /// The length of the arrays and slices.
-const SIZE: usize = 64;
+const SIZE: usize = 96;
 
 /// Writes the text of each number to a target, and returns how many bytes that were.
 #[allow(clippy::redundant_closure, reason = "a call of a function is not always inlined as one in a closure is")]

@@ -4,8 +4,8 @@
 mod cases;
 
 use cases::{
-    AnyRadix, Case, ChangingRadix, Column, Decimal, Hexadecimal, Line, Lowercase, Lowercase36, Names, Radix36,
-    SixDigits, TARGETS, Target, Zeros, is_same, write_all, write_all_by_std,
+    AnyRadix, Case, ChangingRadix, Column, Decimal, FourNumbers, Hexadecimal, Line, Lowercase, Lowercase36, Names,
+    Radix36, SixDigits, TARGETS, Target, Zeros, is_same, write_all, write_all_by_std,
 };
 use std::hint::black_box;
 use std::io::IsTerminal;
@@ -52,7 +52,7 @@ fn row<C: Case>() -> Row {
     Row { name: C::NAME, is_same: is_same::<C>, ours: write_all::<C>, std: has_std.then_some(write_all_by_std::<C>) }
 }
 
-fn rows() -> [Row; 12] {
+fn rows() -> [Row; 13] {
     [
         row::<Decimal>(),
         row::<Hexadecimal>(),
@@ -65,6 +65,7 @@ fn rows() -> [Row; 12] {
         row::<Zeros>(),
         row::<Column>(),
         row::<Line>(),
+        row::<FourNumbers>(),
         row::<Names>(),
     ]
 }
