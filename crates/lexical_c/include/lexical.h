@@ -635,7 +635,8 @@ lexical_private_radix(uint64_t number)
  * Yields the first value if the number is an integer constant expression, and otherwise
  * the second. 0 times such an expression is a null pointer constant, so ?: has the type
  * int *. Otherwise it has the type void *. The result does not depend on what a compiler
- * optimizes. The number is not evaluated. (With a 0 for the 8, gcc may warn of equal branches.)
+ * optimizes. The number is not evaluated. The 8 is not 0, because gcc may warn of equal
+ * branches.
  */
 #define LEXICAL_PRIVATE_IF_CONSTANT(number, value, other)                      \
     _Generic(1 ? (void *)((intptr_t)(number) * 0) : (int *)8, int *: (value), default: (other))
