@@ -15,10 +15,11 @@ use std::process::Command;
 
 #[test]
 fn ends_of_strings_and_vectors() {
-    for count in [0, 1, 12, 13, 100] {
+    // The first text is shorter than its room, and the second as long.
+    for (count, number) in [0, 1, 12, 13, 100].into_iter().flat_map(|count| [(count, 7), (count, u64::MAX)]) {
         // Each room is 20 bytes, so 13 numbers have more than 256.
-        let numbers = vec![u64::MAX; count];
-        let expected = format!("é{}", vec!["18446744073709551615"; count].join(","));
+        let numbers = vec![number; count];
+        let expected = format!("é{}", vec![number.to_string(); count].join(","));
         let mut string = String::from("é");
         Joined(&numbers, ",").append_to(&mut string);
         assert_eq!(string, expected);
@@ -36,6 +37,13 @@ fn ends_of_strings_and_vectors() {
     Joined(&digits, ",").append_to(&mut string);
     Joined(&digits, ",").append_to(&mut bytes);
     assert_eq!((string.as_str(), bytes.as_slice()), (expected.as_str(), expected.as_bytes()));
+    assert!(bytes.capacity() < 279);
+    // A `Displayed` does not tell how long it is.
+    let long = Displayed(&f64::MAX);
+    let (mut string, mut bytes) = (String::new(), Vec::with_capacity(1000));
+    long.append_to(&mut string);
+    long.append_to(&mut bytes);
+    assert_eq!((string.as_str(), bytes.as_slice()), (&*f64::MAX.to_string(), f64::MAX.to_string().as_bytes()));
 }
 
 /// A child process runs this test again with the name of a variable, since the process that runs out of memory aborts.
