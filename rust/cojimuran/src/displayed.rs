@@ -99,7 +99,8 @@ impl<T: Display + ?Sized> Part for Displayed<'_, T> {
     }
 
     // So `to_str` formats the value only once: `write_to` panics if the text does not fit. Nothing else relies on this
-    // bound, because `to_str` always checks that a text with a `Displayed` in it is UTF-8.
+    // bound: `to_str` always checks that a text with a `Displayed` in it is UTF-8, and `append_to` asks first whether a
+    // part is known to be UTF-8.
     #[inline]
     fn room_bound(self, _sealed: Sealed) -> usize {
         0
