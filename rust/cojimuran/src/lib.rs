@@ -33,6 +33,7 @@
 //! | part | what it writes |
 //! |---|---|
 //! | [`Digits`], [`Hex`], [`FullHex`], [`Binary`] | an unsigned number in a radix; [`Lower`] of it is in lowercase |
+//! | [`InRadix`] | the same as `Digits`, with the radix in the type, so that less code is needed |
 //! | [`Formatted`] | a number in a [`NumberFormat`], which has a radix, groups of digits or a `+` |
 //! | [`Fixed`], [`GroupedFixed`], [`TrimmedFixed`] | an amount, such as `-19.95` |
 //! | [`Padded`], [`PaddedDigits`], [`ZeroPadded`] | leading zeros, as in `07:05` |
@@ -98,9 +99,9 @@
 //! Most parts have `Display`. A tuple, an `Option`, a [`Byte`], a [`Bytes`] and a [`Sign`] have none, and a part of
 //! your own has one only if you write it: print them by [`Shown`]. The others take these options:
 //!
-//! - [`Decimal`], [`Plus`], [`Digits`], [`Hex`], [`FullHex`], [`Binary`], [`Formatted`], [`Fixed`], [`GroupedFixed`],
-//!   [`TrimmedFixed`], [`Padded`] and [`PaddedDigits`] take the width, the fill, the `+` and the `0` of an integer. `#`
-//!   and a precision have no effect on them.
+//! - [`Decimal`], [`Plus`], [`Digits`], [`InRadix`], [`Hex`], [`FullHex`], [`Binary`], [`Formatted`], [`Fixed`],
+//!   [`GroupedFixed`], [`TrimmedFixed`], [`Padded`] and [`PaddedDigits`] take the width, the fill, the `+` and the `0`
+//!   of an integer. `#` and a precision have no effect on them.
 //! - A [`Displayed`] passes all options to its value.
 //! - [`Shown`], which is no part itself, and all other parts, such as [`Lower`] and [`ZeroPadded`], take the width, the
 //!   fill and the precision of a `&str`.
@@ -190,6 +191,7 @@ mod misuse;
 /// | cannot borrow `buffer` as mutable more than once | a buffer for each text that you keep |
 /// | temporary value dropped while borrowed | the array in a variable of its own: `let mut buffer = [0; 64];` |
 /// | mismatched types, for `Joined(vector, ",")` or `Joined(iterator, ",")` | `Joined(&vector, ",")`; for an iterator a loop, or a vector of what it yields |
+/// | evaluation panicked: assertion failed: `is_radix(RADIX as u64)` | a radix from 2 to 36 in `InRadix::<36, _>(number)` |
 /// | `NonZero<u64>` is not a part | `number.get()` |
 /// | no method named `write_pieces` | `use cojimuran::Show` |
 /// | `Stdout: std::fmt::Write` is not satisfied, or `File` or `Vec<u8>` in its place | `out.write_all(line.to_text(&mut buffer))`, or `write!(out, "{}", Shown(line))`; for a `Vec` also `line.append_to(&mut vec)` |
@@ -230,7 +232,7 @@ pub use num::{
 #[doc(inline)]
 pub use parts::{
     Binary, Buffer, Byte, Bytes, Center, Decimal, Digits, Fixed, Formatted, FullHex, GroupedFixed,
-    Hex, HexBytes, Joined, Left, Lower, OrElse, Padded, PaddedDigits, Part, Plus, Right,
+    Hex, HexBytes, InRadix, Joined, Left, Lower, OrElse, Padded, PaddedDigits, Part, Plus, Right,
     Scientific, Show, Shown, Sign, TrimmedFixed, ZeroPadded, write_field, write_with_length,
 };
 pub use write_integer::{ToLexical, ToLexicalWithOptions, group_digits, sign_len, write_sign};

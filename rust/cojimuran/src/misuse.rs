@@ -106,6 +106,14 @@
 //! }
 //! ```
 //!
+//! A radix in a type is from 2 to 36:
+//!
+//! ```compile_fail,E0080
+//! use cojimuran::{InRadix, Part};
+//!
+//! InRadix::<37, _>(5u8).to_str(&mut [0; 8]);
+//! ```
+//!
 //! And no type of one's own is an integer type, whose digits a part of the package would write:
 //!
 //! ```compile_fail,E0277

@@ -21,12 +21,12 @@
 //!
 //! The calls are the methods of [`Part`]. The other types here are parts, and so are the integer types.
 //!
-//! [`Decimal`], [`Formatted`], [`Plus`], [`Hex`], [`FullHex`], [`Binary`], [`Digits`], [`Padded`], [`PaddedDigits`],
-//! [`Fixed`], [`GroupedFixed`] and [`TrimmedFixed`] also have `Display`: `{}` of such a part writes its text, with the
-//! sign, the width and the fill as of an integer, and `#` and a precision do nothing. `{}` of a [`Shown`] writes a
-//! tuple or any other part as it does a `&str`, and so does that of [`Joined`], [`Left`], [`Right`], [`Center`],
-//! [`ZeroPadded`], [`Lower`], [`OrElse`], [`Scientific`] and [`HexBytes`]. `{}` is an error if the part is not valid,
-//! or if it contains a byte that [`Part::to_str`] refuses.
+//! [`Decimal`], [`Formatted`], [`Plus`], [`Hex`], [`FullHex`], [`Binary`], [`Digits`], [`InRadix`], [`Padded`],
+//! [`PaddedDigits`], [`Fixed`], [`GroupedFixed`] and [`TrimmedFixed`] also have `Display`: `{}` of such a part writes
+//! its text, with the sign, the width and the fill as of an integer, and `#` and a precision do nothing. `{}` of a
+//! [`Shown`] writes a tuple or any other part as it does a `&str`, and so does that of [`Joined`], [`Left`], [`Right`],
+//! [`Center`], [`ZeroPadded`], [`Lower`], [`OrElse`], [`Scientific`] and [`HexBytes`]. `{}` is an error if the part is
+//! not valid, or if it contains a byte that [`Part::to_str`] refuses.
 
 // The trait that each part implements, and what keeps others from defining some of its methods.
 mod part;
@@ -49,7 +49,7 @@ pub use layout::with_length::write_with_length;
 pub use layout::zero_padded::ZeroPadded;
 pub use numbers::decimal::Decimal;
 pub use numbers::decimal_buffer::Buffer;
-pub use numbers::digits::Digits;
+pub use numbers::digits::{Digits, InRadix};
 pub use numbers::fixed::{Fixed, GroupedFixed};
 pub use numbers::formatted::Formatted;
 pub use numbers::padded::{Padded, PaddedDigits};

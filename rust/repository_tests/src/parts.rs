@@ -47,6 +47,7 @@ macro_rules! each_part {
              1, "-"                     => Sign(v.bits as i64, v.small % 2 == 1), where bits = 1 << 63;
              8, "11111111"              => Digits(v.small as u32 % 40, v.bits as u8), where small = 2;
              1, "0"                     => Digits(v.width as u32, v.bits), where width = 36, bits = 0;
+            13, "3W5E11264SGSF"         => InRadix::<36, _>(v.bits);
              8, "FFFFFFFF"              => Hex(v.bits as u32);
              4, "00FF"                  => FullHex(v.bits as u16), where bits = 255;
              8, "11111111"              => Binary(v.bits as u8);

@@ -18,7 +18,7 @@ fn paths_in(folder: &Path) -> Vec<PathBuf> {
 
 /// Returns whether a text has a call of a function of this name, or makes a tuple struct of it.
 pub fn has_call(text: &str, name: &str) -> bool {
-    rests_after(text, name).any(|rest| rest.starts_with('('))
+    rests_after(text, name).any(|rest| rest.starts_with('(') || rest.starts_with("::<"))
 }
 
 /// Returns whether a text has this word.

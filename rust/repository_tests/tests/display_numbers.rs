@@ -72,6 +72,7 @@ macro_rules! check_digits {
             check_widths!(Binary(number), number, "b": "" "<" "^" "*>" "+" "0" "+0");
             check_widths!(Digits(16, number), number, "X": "" "<" "^" "*>" "+" "0" "+0");
             check_widths!(Digits(8, number), number, "o": "" "<" "^" "*>" "+" "0" "+0");
+            check_widths!(InRadix::<8, _>(number), number, "o": "" "<" "^" "*>" "+" "0" "+0");
             assert_eq!(PaddedDigits(2, number, 64).to_string(), format!("{number:064b}"));
             assert_eq!(PaddedDigits(16, number, 16).to_string(), format!("{number:016X}"));
             // A `usize` has the width of a `u64` on every target.

@@ -61,7 +61,10 @@ fn leaf(random: &mut Random, level: u8) {
         0 => node(&number, random, level),
         1 => node(&text(random), random, level),
         2 => node(&(number as u8, number as u16, signed as i32, signed, Decimal(number as i8)), random, level),
-        3 => node(&(Plus(signed as i16), Digits(radix, number), Hex(number), Binary(number as u32)), random, level),
+        3 => {
+            let digits = (Digits(radix, number), InRadix::<7, _>(number), Hex(number), Binary(number as u32));
+            node(&(Plus(signed as i16), digits), random, level)
+        }
         4 => {
             let padded = (Padded(number as u32, 10 + small * small), PaddedDigits(3, number as u8, 6 + small));
             node(&padded, random, level)

@@ -71,6 +71,11 @@ pub(crate) const RULES: &[(&str, &[(&str, &str)])] = &[
             ("if is_known_utf8 {", "if is_known_utf8 { debug_assert!(from_utf8(text).is_ok());"),
         ],
     ),
+    // In Rattle a radix that is not from 2 to 36 is refused by a `requires`, and here when the call is compiled.
+    (
+        "lexical_parts/numbers/digits.rt",
+        &[("Digits(RADIX, self.0)", "const { assert!(is_radix(RADIX as u64)) }; Digits(RADIX, self.0)")],
+    ),
     (
         "lexical_lines",
         &[

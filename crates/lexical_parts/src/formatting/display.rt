@@ -15,7 +15,7 @@ use crate::formatting::cell::{is_short_cell, write_cell};
 use crate::formatting::shown::format_fill;
 use crate::numbers::compact::{CompactDigits, CompactFormatted};
 use crate::numbers::decimal::Decimal;
-use crate::numbers::digits::Digits;
+use crate::numbers::digits::{Digits, InRadix};
 use crate::numbers::fixed::{Fixed, GroupedFixed, LONGEST_FIXED};
 use crate::numbers::formatted::Formatted;
 use crate::numbers::padded::{MOST_DIGITS, Padded, PaddedDigits};
@@ -27,7 +27,9 @@ use crate::sealed::Sealed;
 use lexical_num::limits::is_radix;
 use lexical_write_integer::digit_count::DigitCount;
 use lexical_write_integer::format::STANDARD;
-use lexical_write_integer::laws::{digits_computed, padded_computed, text_computed};
+use lexical_write_integer::laws::{
+    digit_count_within_bits, digits_computed, padded_computed, text_computed,
+};
 use lexical_write_integer::radix::Radix;
 use lexical_write_integer::{BUFFER_SIZE, NumberFormatBuilder, ToLexical};
 use std::fmt;
@@ -237,6 +239,25 @@ impl<T: DigitCount + Radix> fmt::Display for Digits<T> {
     fn fmt<W: fmt::Write>(&self, f: &mut fmt::Formatter<W>) -> fmt::Result {
         let mut buffer = [0; MOST_DIGITS];
         let text = Digits(self.0, self.1).text_or_error(&mut buffer)?;
+        pad_number(f, false, false, text)
+    }
+}
+
+impl<const RADIX: u32, T: DigitCount + Radix> fmt::Display for InRadix<RADIX, T> {
+    ghost output = { λ part. Some (digits_text RADIX (T.magnitude part.0)) };
+
+    ghost styled_output = { λ part spec. Some (padded_integral spec false []
+        (digits_text RADIX (T.magnitude part.0))) };
+
+    fn fmt<W: fmt::Write>(&self, f: &mut fmt::Formatter<W>) -> fmt::Result {
+        if !is_radix(u64::from(RADIX)) {
+            return Err(fmt::Error);
+        }
+        self.0.fits_bits();
+        digit_count_within_bits(RADIX, self.0);
+        let mut buffer = [0; MOST_DIGITS];
+        let text = InRadix::<RADIX, T>(self.0).to_str(&mut buffer);
+        digits_computed(RADIX, self.0.as_u64(), text.as_bytes());
         pad_number(f, false, false, text)
     }
 }

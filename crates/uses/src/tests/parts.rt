@@ -6,10 +6,11 @@ use crate::price::write_price;
 use crate::table_row::write_table_row;
 use crate::uuid::uuid;
 use lexical_parts::{
-    Binary, Center, Decimal, Fixed, Formatted, FullHex, GroupedFixed, Hex, Left, Lower, OrElse,
-    PaddedDigits, Part, Plus, Right, Sign, TrimmedFixed, ZeroPadded,
+    Binary, Center, Decimal, Fixed, Formatted, FullHex, GroupedFixed, Hex, InRadix, Left, Lower,
+    OrElse, PaddedDigits, Part, Plus, Right, Sign, TrimmedFixed, ZeroPadded,
 };
 use lexical_write_integer::format::STANDARD;
+use lexical_write_integer::laws::digit_count_within_bits;
 use lexical_write_integer::{NumberFormat, NumberFormatBuilder};
 use std::process::Abort;
 
@@ -45,6 +46,21 @@ fn numbers_with_the_room_of_their_type(rt: HostRuntime) {
     check_room(&rt, Hex(1u64), 16);
     check_room(&rt, Binary(1u8), 8);
     check_room(&rt, Binary(1u64), 64);
+}
+
+#[test]
+fn digits_in_the_radix_of_a_type(rt: HostRuntime) {
+    digit_count_within_bits(36, u64::MAX);
+    digit_count_within_bits(2, 5u8);
+    digit_count_within_bits(16, 0xC0DEu16);
+    check_part(&rt, InRadix::<36, _>(u64::MAX), b"3W5E11264SGSF");
+    check_part(
+        &rt,
+        (InRadix::<2, _>(5u8), Lower(InRadix::<16, _>(0xC0DEu16))),
+        b"101c0de",
+    );
+    check_room(&rt, InRadix::<7, _>(6u8), 1);
+    check_room(&rt, InRadix::<7, _>(7u8), 2);
 }
 
 #[test]

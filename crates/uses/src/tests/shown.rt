@@ -5,7 +5,8 @@ use crate::csv_row::{Row, push_entries};
 use crate::log_lines::{push_line, push_str_line, write_line};
 use crate::printed::{amount_string, flags_in_column};
 use lexical_parts::{
-    Binary, Decimal, Fixed, Formatted, GroupedFixed, Hex, Padded, Plus, Shown, TrimmedFixed,
+    Binary, Decimal, Fixed, Formatted, GroupedFixed, Hex, InRadix, Padded, Plus, Shown,
+    TrimmedFixed,
 };
 use lexical_write_integer::NumberFormatBuilder;
 use std::alloc::{Alloc, Global};
@@ -49,13 +50,14 @@ fn parts_in_format_strings(rt: HostRuntime) {
         &rt,
         rt.alloc(),
         format_args!(
-            "{}|{:>8}|{:*^7}|{:<4}|",
+            "{}|{:>8}|{:*^7}|{:<4}|{:+05}|",
             Hex(255u32),
             Hex(255u32),
             Decimal(-12),
-            Binary(5u8)
+            Binary(5u8),
+            InRadix::<36, _>(1000u64)
         ),
-        "FF|      FF|**-12**|101 |",
+        "FF|      FF|**-12**|101 |+00RS|",
     );
 }
 

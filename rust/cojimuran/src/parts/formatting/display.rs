@@ -8,7 +8,7 @@ use crate::parts::formatting::cell::{is_short_cell, write_cell};
 use crate::parts::formatting::shown::format_fill;
 use crate::parts::numbers::compact::{CompactDigits, CompactFormatted};
 use crate::parts::numbers::decimal::Decimal;
-use crate::parts::numbers::digits::Digits;
+use crate::parts::numbers::digits::{Digits, InRadix};
 use crate::parts::numbers::fixed::{Fixed, GroupedFixed, LONGEST_FIXED};
 use crate::parts::numbers::formatted::Formatted;
 use crate::parts::numbers::padded::{MOST_DIGITS, Padded, PaddedDigits};
@@ -174,6 +174,18 @@ impl<T: DigitCount + Radix> fmt::Display for Digits<T> {
     fn fmt(&self, f: &mut fmt::Formatter<'_>) -> fmt::Result {
         let mut buffer = [0; MOST_DIGITS];
         let text = Digits(self.0, self.1).text_or_error(&mut buffer)?;
+        pad_number(f, false, false, text)
+    }
+}
+
+impl<const RADIX: u32, T: DigitCount + Radix> fmt::Display for InRadix<RADIX, T> {
+    #[inline(always)]
+    fn fmt(&self, f: &mut fmt::Formatter<'_>) -> fmt::Result {
+        if !is_radix(u64::from(RADIX)) {
+            return Err(fmt::Error);
+        }
+        let mut buffer = [0; MOST_DIGITS];
+        let text = InRadix::<RADIX, T>(self.0).to_str(&mut buffer);
         pad_number(f, false, false, text)
     }
 }

@@ -1,6 +1,6 @@
 // Made by `strip` from crates/lexical_parts/src/numbers/digits.rt. Edit that file, not this one.
 
-//! The digits of an unsigned number in any radix.
+//! The digits of an unsigned number in any radix, which is a field of the part or stands in its type.
 
 use crate::num::limits::is_radix;
 use crate::parts::formatting::show::Show;
@@ -18,9 +18,11 @@ use core::fmt;
 /// valid. A literal needs a type, because an `i32` is signed: `Digits(36, 1000u64)`. A signed number in a radix is
 /// written by `Formatted`. The room is the number of digits.
 ///
-/// If the radix is a constant where you call `to_str`, your program has only the code of that radix. If it is known
-/// only at run time, your program has [the code of every radix](crate::costs#a-radix-that-is-known-only-at-run-time),
-/// which is 65 KB or more. `write_pieces` and `{}` take a tenth of that, because they divide once for each digit.
+/// If the radix is a constant, and you write the part where you make it, your program has only the code of that radix.
+/// If you pass the part on, make it an [`InRadix`](super::super::InRadix), which has its radix in its type. If the
+/// radix is known only at run time, your program has [the code of every
+/// radix](crate::costs#a-radix-that-is-known-only-at-run-time), which is 65 KB or more. `write_pieces` and `{}` take a
+/// tenth of that, because they divide once for each digit.
 ///
 /// ```
 /// use cojimuran::{Digits, Lower, Part};
@@ -83,5 +85,86 @@ impl<T: Radix + DigitCount> Show for Digits<T> {
         }
         let digits = CompactDigits(self.0, self.1.as_u64());
         out.write_str(digits.to_str(&mut [0; MOST_DIGITS]))
+    }
+}
+
+/// The digits of an unsigned number in a radix that you know: `InRadix::<36, _>(1000u64)` writes `RS`.
+///
+/// It writes the same text as `Digits(36, 1000u64)`, and has the same room. But the radix stands in the type, so your
+/// program has only the code of that radix, wherever the part goes: for example through a function that is not
+/// inlined, or into a [`Joined`](super::super::Joined).
+///
+/// The radix is from 2 to 36. With another one a call does not compile in Rust; in Rattle the part is then not valid.
+/// The digits above 9 are `A` to `Z`, and [`Lower`](super::super::Lower) of the part writes `a` to `z`. A literal needs
+/// a type, because an `i32` is signed.
+///
+/// ```
+/// use cojimuran::{InRadix, Lower, Part};
+///
+/// assert_eq!(InRadix::<36, _>(1000u64).to_str(&mut [0; 64]), "RS");
+/// assert_eq!(Lower(InRadix::<36, _>(1000u64)).to_str(&mut [0; 64]), "rs");
+/// ```
+#[derive(Clone, Copy, PartialEq, Eq, Hash, Debug)]
+pub struct InRadix<const RADIX: u32, T>(
+    /// The number.
+    pub T,
+);
+
+impl<const RADIX: u32, T> InRadix<RADIX, T> {
+    // Returns the part with its radix as a value.
+    #[inline(always)]
+    #[track_caller]
+    fn digits(self) -> Digits<T> {
+        const { assert!(is_radix(RADIX as u64)) };
+        Digits(RADIX, self.0)
+    }
+}
+
+impl<const RADIX: u32, T: Radix + DigitCount> Part for InRadix<RADIX, T> {
+    #[inline(always)]
+    #[track_caller]
+    fn room(self) -> usize {
+        self.digits().room()
+    }
+
+    #[inline(always)]
+    #[track_caller]
+    fn write_to(self, buffer: &mut [u8]) -> usize {
+        self.digits().write_to(buffer)
+    }
+
+    #[inline(always)]
+    #[track_caller]
+    fn text_len(self) -> Option<usize> {
+        self.digits().text_len()
+    }
+
+    #[inline(always)]
+    #[track_caller]
+    fn room_bound(self, sealed: Sealed) -> usize {
+        self.digits().room_bound(sealed)
+    }
+
+    #[inline(always)]
+    #[track_caller]
+    fn is_known_valid_and_utf8(self, sealed: Sealed) -> bool {
+        self.digits().is_known_valid_and_utf8(sealed)
+    }
+}
+
+impl<const RADIX: u32, T: Radix + DigitCount> Show for InRadix<RADIX, T> {
+    #[inline(always)]
+    #[track_caller]
+    fn is_showable(self) -> bool {
+        self.digits().is_showable()
+    }
+
+    #[inline(always)]
+    #[track_caller]
+    fn write_pieces<O: fmt::Write>(self, out: &mut O) -> fmt::Result {
+        if !self.is_showable() {
+            return Err(fmt::Error);
+        }
+        out.write_str(self.to_str(&mut [0; MOST_DIGITS]))
     }
 }
