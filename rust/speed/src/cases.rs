@@ -1,7 +1,7 @@
 //! What is written, and where to. Each loop is a function of its own for each case and each call, so none is shared.
 
 use cojimuran::{
-    Append, Digits, Hex, Lower, NumberFormat, NumberFormatBuilder, Options, Padded, Part, Right, Show, Shown,
+    Append, Digits, Hex, InRadix, Lower, NumberFormat, NumberFormatBuilder, Options, Padded, Part, Right, Show, Shown,
     ToLexical, ToLexicalWithOptions, ZeroPadded,
 };
 use std::fmt::Write as _;
@@ -118,7 +118,8 @@ fn short(number: u64) -> u64 {
 case! { Decimal, "decimal", |n, b| n.to_lexical(b).len(), n; "{n}" }
 case! { Hexadecimal, "radix 16", |n, b| to_lexical(n, b, &RADIX_16), Hex(n); "{n:X}" }
 case! { Lowercase, "radix 16, lowercase", |n, b| Lower(Hex(n)).write_to(b), Lower(Hex(n)); "{n:x}" }
-case! { Radix36, "radix 36", |n, b| to_lexical(n, b, &RADIX_36), Digits(36, n) }
+case! { Radix36, "radix 36, `Digits`", |n, b| to_lexical(n, b, &RADIX_36), Digits(36, n) }
+case! { InRadix36, "radix 36, `InRadix`", |n, b| InRadix::<36, _>(n).write_to(b), InRadix::<36, _>(n) }
 case! { AnyRadix, "radix 36 at run time", |n, b| any_radix(n).write_to(b), any_radix(n) }
 case! { ChangingRadix, "radix 30 to 36 at run time", |n, b| changing_radix(n).write_to(b), changing_radix(n) }
 case! { Lowercase36, "radix 36, lowercase", |n, b| Lower(Digits(36, n)).write_to(b), Lower(Digits(36, n)) }

@@ -4,8 +4,8 @@
 mod cases;
 
 use cases::{
-    AnyRadix, Case, ChangingRadix, Column, Decimal, FourNumbers, Hexadecimal, Line, Lowercase, Lowercase36, Names,
-    Radix36, SixDigits, TARGETS, Target, Zeros, is_same, write_all, write_all_by_std,
+    AnyRadix, Case, ChangingRadix, Column, Decimal, FourNumbers, Hexadecimal, InRadix36, Line, Lowercase, Lowercase36,
+    Names, Radix36, SixDigits, TARGETS, Target, Zeros, is_same, write_all, write_all_by_std,
 };
 use std::hint::black_box;
 use std::io::IsTerminal;
@@ -52,12 +52,13 @@ fn row<C: Case>() -> Row {
     Row { name: C::NAME, is_same: is_same::<C>, ours: write_all::<C>, std: has_std.then_some(write_all_by_std::<C>) }
 }
 
-fn rows() -> [Row; 13] {
+fn rows() -> [Row; 14] {
     [
         row::<Decimal>(),
         row::<Hexadecimal>(),
         row::<Lowercase>(),
         row::<Radix36>(),
+        row::<InRadix36>(),
         row::<Lowercase36>(),
         row::<AnyRadix>(),
         row::<ChangingRadix>(),
