@@ -1,8 +1,9 @@
 //! The recipes of the README, each beside the text that it writes.
 
 use cojimuran::{
-    Append, Buffer, Digits, Displayed, Fixed, Formatted, GroupedFixed, Hex, HexBytes, Joined, Left,
-    Lower, NumberFormat, NumberFormatBuilder, Padded, Part, Right, Show, Shown, ZeroPadded,
+    Append, Buffer, Digits, Displayed, Fixed, Formatted, GroupedFixed, Hex, HexBytes, InRadix,
+    Joined, Left, Lower, NumberFormat, NumberFormatBuilder, Padded, Part, Right, Show, Shown,
+    ZeroPadded,
 };
 use std::fmt;
 
@@ -43,7 +44,7 @@ fn main() {
     let mut buffer = [0; 64];
     assert_eq!(Buffer::new().format(-1234i32), "-1234");
     assert_eq!(Digits(36, 1000u64).to_str(&mut buffer), "RS");
-    assert_eq!(Lower(Digits(36, 1000u64)).to_str(&mut buffer), "rs");
+    assert_eq!(Lower(InRadix::<36, _>(1000u64)).to_str(&mut buffer), "rs");
 
     // Groups of digits, and amounts.
     let people = Formatted(1234567u32, &THOUSANDS);
