@@ -1,5 +1,6 @@
 //! Measures the package beside the formatting of the standard library, and prints a table:
-//! `cargo run --release -p speed`. With `-- --passes N` it measures each row N times, and otherwise 200 times.
+//! `cargo run --release -p speed`. With `-- --passes N` it measures each row N times, and otherwise 200 times. With
+//! further words, such as `-- decimal`, it measures only the texts whose name begins with one of them.
 
 mod cases;
 
@@ -100,9 +101,9 @@ fn show_progress(line: &str) {
 /// The columns of the times, as README.md says.
 const COLUMNS: &str = "| text | numbers | to | here, ns | std, ns | ratio |";
 
-fn print_times(count: usize) {
+fn print_times(rows: &[Row], count: usize) {
     println!("{COLUMNS}\n|---|---|---|---|---|---|");
-    for row in rows() {
+    for row in rows {
         for (distribution, name) in DISTRIBUTIONS {
             let numbers = numbers(distribution);
             for (target, to) in TARGETS {
@@ -123,22 +124,25 @@ fn print_times(count: usize) {
     }
 }
 
-/// Returns how many passes these words ask for.
-fn passes(words: &[String]) -> Option<usize> {
-    match words {
-        [] => Some(200),
-        [option, count] if option == "--passes" => count.parse().ok().filter(|count| *count > 0),
-        _ => None,
-    }
+/// Returns the rows and how many passes these words ask for, if each word that is no option begins the name of a row.
+fn asked(words: &[String]) -> Option<(Vec<Row>, usize)> {
+    let (count, names) = match words {
+        [option, count, names @ ..] if option == "--passes" => (count.parse().ok().filter(|count| *count > 0)?, names),
+        names => (200, names),
+    };
+    let is_named = |row: &Row| names.is_empty() || names.iter().any(|name| row.name.starts_with(name));
+    let are_there = names.iter().all(|name| rows().iter().any(|row| row.name.starts_with(name)));
+    are_there.then(|| (rows().into_iter().filter(is_named).collect(), count))
 }
 
 fn main() -> ExitCode {
     let words: Vec<String> = std::env::args().skip(1).collect();
-    let Some(count) = passes(&words) else {
-        eprintln!("use: cargo run --release -p speed [-- --passes N]");
+    let Some((rows, count)) = asked(&words) else {
+        let names = rows().map(|row| row.name).join(", ");
+        eprintln!("use: cargo run --release -p speed [-- [--passes N] [TEXT..]]\nThe texts are: {names}");
         return ExitCode::FAILURE;
     };
-    print_times(count);
+    print_times(&rows, count);
     ExitCode::SUCCESS
 }
 
@@ -159,6 +163,17 @@ mod tests {
     #[test]
     fn the_page_has_the_columns() {
         assert!(include_str!("../README.md").contains(&format!("\n    {COLUMNS}\n")));
+    }
+
+    #[test]
+    fn rows_that_are_asked_for() {
+        let asked_for = |words: &[&str]| asked(&words.iter().map(ToString::to_string).collect::<Vec<_>>());
+        let found = |words| asked_for(words).map(|(rows, count)| (rows.len(), count));
+        assert_eq!(found(&[]), Some((14, 200)));
+        assert_eq!(found(&["--passes", "5", "decimal", "six digits"]), Some((3, 5)));
+        assert!(
+            [["--passes", "0"], ["--passes", "x"], ["decimal", "--passes"]].iter().all(|words| found(words).is_none())
+        );
     }
 
     #[test]
