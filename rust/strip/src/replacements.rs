@@ -156,6 +156,7 @@ pub(crate) const RULES: &[(&str, &[(&str, &str)])] = &[
             // An assertion takes the runtime, and a vector its allocator.
             ("!(rt;", "!("),
             ("Vec::new(alloc)", "Vec::new()"),
+            ("String::new(alloc)", "String::new()"),
             (".to_string(alloc)?", ".to_string()"),
         ],
     ),

@@ -21,8 +21,11 @@ pub(crate) const MOST_IN_ONE_PIECE: usize = 256;
 /// define `is_showable`, and `write_pieces` too if the room of the part can be above 256 bytes.
 ///
 /// ```
-/// use lexical_parts::Shown;
+/// use lexical_parts::{Hex, Show, Shown};
 ///
+/// let mut text = String::new(alloc);
+/// assert!(rt; ("id=", 7u8, " flags=0x", Hex(255u16)).write_pieces(&mut text).is_ok());
+/// assert_eq!(rt; text.as_str(), "id=7 flags=0xFF");
 /// assert_eq!(rt; Shown(("id=", 7u8)).to_string(alloc)?, "id=7");
 /// ```
 pub trait Show: Part {

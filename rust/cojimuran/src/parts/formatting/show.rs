@@ -18,8 +18,11 @@ pub(crate) const MOST_IN_ONE_PIECE: usize = 256;
 /// define `is_showable`, and `write_pieces` too if the room of the part can be above 256 bytes.
 ///
 /// ```
-/// use cojimuran::Shown;
+/// use cojimuran::{Hex, Show, Shown};
 ///
+/// let mut text = String::new();
+/// assert!(("id=", 7u8, " flags=0x", Hex(255u16)).write_pieces(&mut text).is_ok());
+/// assert_eq!(text.as_str(), "id=7 flags=0xFF");
 /// assert_eq!(Shown(("id=", 7u8)).to_string(), "id=7");
 /// ```
 #[diagnostic::on_unimplemented(
