@@ -203,8 +203,8 @@ size_t lexical_decimal_i64(int64_t value, char *buffer, size_t size) LEXICAL_NOE
  *
  * In C89, and in C++ before C++20, write the fields in their order, { 10, 0, 3, ',' }, or
  * initialize a variable with LEXICAL_RADIX(10), and then set its fields. (In C, C++98 and
- * C++11, -Wextra warns of fields that are left out of such a list.) Without an initializer
- * a local variable has indeterminate fields, and from C++14 on an indeterminate radix.
+ * C++11, -Wextra warns of fields that are left out of such a list.) The fields of a
+ * local variable without an initializer are indeterminate; from C++14 on only its radix is.
  *
  * From C++14 on, each field after the radix has the default value 0, so the default
  * constructor is not trivial. To clear a format write `format = {}`, because g++ warns of
@@ -214,7 +214,7 @@ size_t lexical_decimal_i64(int64_t value, char *buffer, size_t size) LEXICAL_NOE
 struct lexical_format {
     /* From 2 to 36. */
     uint32_t radix;
-    /* 0, or any other number for a '+' before zero and positive numbers. */
+    /* If it is not 0, zero and positive numbers begin with '+'. */
     uint32_t required_sign LEXICAL_DEFAULT(0);
     /* The number of digits in a group, from 1 to 64, or 0 for no groups. */
     uint32_t group_size LEXICAL_DEFAULT(0);
@@ -262,7 +262,7 @@ struct lexical_format {
  * it is truncated without a warning. If the radix is not from 2 to 36, the radix of the
  * format is 0, which is invalid. An invalid radix that is an integer constant expression is
  * a compile error in C11 and later, and with gcc and clang also in older C and in C++11 and
- * later. The error mentions an array of a negative size, or -1.
+ * later. The error says that the size of an array is negative, or narrows -1.
  *
  * The radix is evaluated once, except in C before C11 with compilers other than gcc and
  * clang.
@@ -279,8 +279,8 @@ struct lexical_format {
 LEXICAL_HAS((visibility("hidden")))
 inline constexpr lexical_format lexical_standard_format = LEXICAL_STANDARD_FORMAT;
 #elif defined(__GNUC__)
-/* One object in each program and in each shared library, which is not exported. It is weak,
-   and not static, so that a C inline function may use it. */
+/* Each program and each shared library has one copy, which is not exported. It is weak, and
+   not static, so that a C inline function may use it. */
 extern __attribute__((weak, visibility("hidden"))) const struct lexical_format lexical_standard_format;
 const struct lexical_format lexical_standard_format = LEXICAL_STANDARD_FORMAT;
 #else
@@ -635,8 +635,8 @@ lexical_private_radix(uint64_t number)
  * Yields the first value if the number is an integer constant expression, and otherwise
  * the second. 0 times such an expression is a null pointer constant, so ?: has the type
  * int *. Otherwise it has the type void *. The result does not depend on what a compiler
- * optimizes. The number is not evaluated. The 8 is not 0, because gcc may warn of equal
- * branches.
+ * optimizes. The number is not evaluated. It is 8 and not 0, because gcc may warn of
+ * equal branches.
  */
 #define LEXICAL_PRIVATE_IF_CONSTANT(number, value, other)                      \
     _Generic(1 ? (void *)((intptr_t)(number) * 0) : (int *)8, int *: (value), default: (other))
