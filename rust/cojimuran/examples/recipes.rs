@@ -16,7 +16,7 @@ struct Point(i32, i32);
 
 impl fmt::Display for Point {
     fn fmt(&self, f: &mut fmt::Formatter<'_>) -> fmt::Result {
-        ("(", self.0, ", ", self.1, ")").write_pieces(f)
+        fmt::Display::fmt(&Shown(("(", self.0, ", ", self.1, ")")), f)
     }
 }
 
@@ -70,5 +70,5 @@ fn main() {
     assert_eq!(line.to_text(&mut buffer), text.as_bytes());
     assert_eq!(format!("{}", Shown(line)), text);
     assert_eq!(format!("{:>6}", Hex(255u16)), "    FF");
-    assert_eq!(Point(3, -4).to_string(), "(3, -4)");
+    assert_eq!(format!("{:>9}", Point(3, -4)), "  (3, -4)");
 }

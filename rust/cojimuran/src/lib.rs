@@ -23,7 +23,7 @@
 //! | a part in a file, `stdout` or any other `io::Write` | `file.write_all(part.to_text(&mut buffer))?` or `write!(file, "{}", Shown(part))?` |
 //!
 //! An array must have [`part.room()`](Part::room) bytes, otherwise `to_str`
-//! [panics](conditions#what-happens-otherwise). (The value in a [`Displayed`] counts as 0 bytes.) [A
+//! [panics](conditions#what-happens-otherwise). (It does not count a [`Displayed`].) [A
 //! table](conditions#how-long-a-buffer-must-be) has the room of each part. Write a text of unknown length with `write_pieces`, which needs no array. [`BUFFER_SIZE`] bytes are enough for
 //! one number in any format.
 //!

@@ -22,8 +22,8 @@ fn from_format_and_write() -> std::io::Result<()> {
     let kept = text.format(number);
     assert_eq!(kept, "7");
 
-    assert_eq!(Shown((a, ",", b)).to_string(), format!("{a},{b}"));
     let mut text = String::new();
+    assert_eq!(Shown((a, ",", b)).to_string(), format!("{a},{b}"));
     (a, ",", b, "\n").write_pieces(&mut text).unwrap();
     assert_eq!(text, format!("{a},{b}\n"));
     file.write_all((a, ",", b, "\n").to_text(&mut buffer))?;
@@ -41,8 +41,6 @@ fn from_format_and_write() -> std::io::Result<()> {
     assert_eq!(Center(number, 8, b' ').to_str(&mut buffer), format!("{number:^8}"));
     let name = "shoe";
     assert_eq!(Left(name, 8, b' ').to_str(&mut buffer), format!("{name:<8}"));
-    let name = "Zoë";
-    assert_eq!(format!("{:<8}", Shown(name)), format!("{name:<8}"));
     assert_eq!(Hex(number).to_str(&mut buffer), format!("{number:X}"));
     assert_eq!(Lower(Hex(number)).to_str(&mut buffer), format!("{number:x}"));
     let number = -1i32;
@@ -129,10 +127,9 @@ fn numbers_of_128_bits() {
     }
 }
 
-/// Returns the code on the right of each row of the tables for Rust. A text without these characters is a name.
+/// Returns the code on the right of each row of the tables. A text without these characters is a name.
 fn code_of_rows(page: &str) -> Vec<&str> {
-    let (tables, _) = page.split_once("## From `std::to_chars`").unwrap();
-    let rows = tables.lines().filter(|line| line.starts_with("| "));
+    let rows = page.lines().filter(|line| line.starts_with("| "));
     let cells = rows.map(|row| row.rsplit(" | ").next().unwrap());
     let texts = cells.flat_map(|cell| cell.split('`').skip(1).step_by(2));
     texts.filter(|text| text.contains(['(', '[', '='])).collect()
