@@ -203,8 +203,8 @@ size_t lexical_decimal_i64(int64_t value, char *buffer, size_t size) LEXICAL_NOE
  *
  * In C89, and in C++ before C++20, write the fields in their order, { 10, 0, 3, ',' }, or
  * initialize a variable with LEXICAL_RADIX(10), and then set its fields. (In C, C++98 and
- * C++11, -Wextra warns of fields that are left out of such a list.) The fields of a
- * local variable without an initializer are indeterminate; from C++14 on only its radix is.
+ * C++11, -Wextra warns of fields that are left out of such a list.) Without an
+ * initializer all fields of a local variable are indeterminate; from C++14 on only its radix is.
  *
  * From C++14 on, each field after the radix has the default value 0, so the default
  * constructor is not trivial. To clear a format write `format = {}`, because g++ warns of
@@ -262,7 +262,7 @@ struct lexical_format {
  * it is truncated without a warning. If the radix is not from 2 to 36, the radix of the
  * format is 0, which is invalid. An invalid radix that is an integer constant expression is
  * a compile error in C11 and later, and with gcc and clang also in older C and in C++11 and
- * later. The error says that the size of an array is negative, or narrows -1.
+ * later. The error names a negative array size, or a narrowing conversion of -1.
  *
  * The radix is evaluated once, except in C before C11 with compilers other than gcc and
  * clang.
