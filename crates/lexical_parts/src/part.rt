@@ -158,7 +158,7 @@ pub trait Part: Copy {
     ///
     /// # Panics
     ///
-    /// If the part is not valid.
+    /// If the part is not valid. If its room is above 256 bytes, it may return `None` instead.
     final fn try_write_to(self, buffer: &mut [u8]) -> Option<usize>
         requires { is_valid self }
         ensures fits { room self ≤ length buffer.old → IsSome result }
@@ -217,7 +217,8 @@ pub trait Part: Copy {
     ///
     /// # Panics
     ///
-    /// If the part is not valid, or if the text of the part is not UTF-8.
+    /// If the part is not valid, or if the text of the part is not UTF-8. If its room is above 256 bytes, it may return
+    /// `None` instead.
     final fn try_to_str(self, buffer: &mut [u8]) -> Option<&str>
         requires valid { is_valid self }
         requires utf8 { is_utf8 self }

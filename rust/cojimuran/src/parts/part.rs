@@ -114,7 +114,7 @@ pub trait Part: Copy {
     ///
     /// # Panics
     ///
-    /// If the part is not valid.
+    /// If the part is not valid. If its room is above 256 bytes, it may return `None` instead.
     #[inline(always)]
     #[track_caller]
     fn try_write_to(self, buffer: &mut [u8]) -> Option<usize> {
@@ -164,7 +164,8 @@ pub trait Part: Copy {
     ///
     /// # Panics
     ///
-    /// If the part is not valid, or if the text of the part is not UTF-8.
+    /// If the part is not valid, or if the text of the part is not UTF-8. If its room is above 256 bytes, it may return
+    /// `None` instead.
     #[inline(always)]
     #[track_caller]
     fn try_to_str(self, buffer: &mut [u8]) -> Option<&str> {

@@ -18,9 +18,9 @@ use core::fmt;
 /// valid. A literal needs a type, because an `i32` is signed: `Digits(36, 1000u64)`. A signed number in a radix is
 /// written by `Formatted`. The room is the number of digits.
 ///
-/// If the radix is a constant, and you write the part where you make it, your program has only the code of that radix.
-/// If you pass the part on, make it an [`InRadix`](super::super::InRadix), which has its radix in its type. If the
-/// radix is known only at run time, your program has [the code of every
+/// If the radix is a constant in the expression that writes the part, as below, your program has only the code of that
+/// radix. If you pass the part on, make it an [`InRadix`](super::super::InRadix), which has its radix in its type. If
+/// the radix is known only at run time, your program has [the code of every
 /// radix](crate::costs#a-radix-that-is-known-only-at-run-time), which is 65 KB or more. `write_pieces` and `{}` take a
 /// tenth of that, because they divide once for each digit.
 ///
