@@ -38,6 +38,7 @@ pub trait Show: Part {
         ensures valid { IsTrue result → Self.is_valid self }
         ensures utf8 { IsTrue result → Self.is_utf8 self }
         ensures only { IsTrue result → IfSome (text self) (λ bytes. IsOnly (Self.is_text self) bytes) };
+        ensures showable { Self.is_valid self → Self.is_utf8 self → IsTrue result }
 
     /// Writes the text to a writer, such as a `String`, in one piece or in several.
     ///

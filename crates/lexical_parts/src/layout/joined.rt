@@ -1,10 +1,9 @@
 //! The parts of a slice, with a separator between adjacent parts.
 
-ghost use Rattle.std.specs.Prelude.{◌≡◌, [], IfSome, IsTrue, ◌+◌, ◌*◌, ◌≤◌, All, length, sum_by};
+ghost use Rattle.std.specs.Prelude.{◌≡◌, [], IsTrue, ◌+◌, ◌*◌, ◌≤◌, All, length, sum_by};
 ghost use Rattle.lexical_write_integer.specs.Buffer.{Writes};
 ghost use Rattle.lexical_write_integer.specs.Sequence.{AreJoined, IsExactly};
 ghost use Rattle.lexical_parts.specs.Joined.{joined_room, joined_text, lead};
-ghost use Rattle.lexical_parts.specs.Length.{IsOnly};
 ghost use Rattle.lexical_parts.specs.Sequence.{◌then◌};
 ghost use Rattle.lexical_parts.specs.Utf8.{AreUtf8};
 
@@ -128,13 +127,7 @@ impl<P: Part> Part for Joined<'_, P> {
 impl<P: Show> Show for Joined<'_, P> {
     ghost text = { λ part. joined_text P.text part.1.now part.0.now };
 
-    fn is_showable(self) -> bool
-        ensures valid { IsTrue result → All P.is_valid self.entry.0.now }
-        ensures utf8 { IsTrue result → All P.is_utf8 self.entry.0.now }
-        ensures only { IsTrue result → IfSome (joined_text P.text self.entry.1.now self.entry.0.now)
-            (λ bytes. IsOnly (AreJoined P.is_text self.entry.1.now self.entry.0.now) bytes) }
-        ensures empty { self.entry.0.now ≡ [] → IsTrue result }
-    {
+    fn is_showable(self) -> bool {
         for part in self.0 {
             if !part.is_showable() {
                 return false;

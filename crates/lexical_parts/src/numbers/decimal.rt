@@ -59,6 +59,6 @@ impl<T: ToLexical> Show for Decimal<T> {
 
     fn is_showable(self) -> bool {
         self.0.in_range();
-        self.is_known_valid_and_utf8(Sealed)
+        true
     }
 }

@@ -6,7 +6,7 @@ ghost use Rattle.std.specs.Prelude.{◌≡◌, IsTrue, Some, IfSome, IsSome};
 ghost use Rattle.lexical_num.specs.Format.{IsRadix};
 ghost use Rattle.lexical_write_integer.specs.DigitCount.{digit_count};
 ghost use Rattle.lexical_write_integer.specs.Text.{IsDigits};
-ghost use Rattle.lexical_parts.specs.Length.{HasLength, IsOnly};
+ghost use Rattle.lexical_parts.specs.Length.{HasLength};
 
 use crate::formatting::show::Show;
 use crate::numbers::compact::CompactDigits;
@@ -84,12 +84,7 @@ impl<T: Radix + DigitCount> Part for Digits<T> {
 impl<T: Radix + DigitCount> Show for Digits<T> {
     ghost text = { λ part. Some (digits_text part.0 (T.magnitude part.1)) };
 
-    fn is_showable(self) -> bool
-        ensures valid { IsTrue result → IsRadix self.0 }
-        ensures known { IsRadix self.0 → IsTrue result }
-        ensures only { IsTrue result
-            → IsOnly (IsDigits self.0 (T.magnitude self.1)) (digits_text self.0 (T.magnitude self.1)) }
-    {
+    fn is_showable(self) -> bool {
         self.1.fits_bits();
         self.is_known_valid_and_utf8(Sealed)
     }
@@ -173,12 +168,7 @@ impl<const RADIX: u32, T: Radix + DigitCount> Part for InRadix<RADIX, T> {
 impl<const RADIX: u32, T: Radix + DigitCount> Show for InRadix<RADIX, T> {
     ghost text = { λ part. Some (digits_text RADIX (T.magnitude part.0)) };
 
-    fn is_showable(self) -> bool
-        ensures valid { IsTrue result → IsRadix RADIX }
-        ensures known { IsRadix RADIX → IsTrue result }
-        ensures only { IsTrue result
-            → IsOnly (IsDigits RADIX (T.magnitude self.0)) (digits_text RADIX (T.magnitude self.0)) }
-    {
+    fn is_showable(self) -> bool {
         self.digits().is_showable()
     }
 

@@ -115,7 +115,10 @@ impl<T: ToLexical> Part for Fixed<T> {
         GroupedFixed(self.0, self.1, &STANDARD).text_len()
     }
 
-    fn is_known_valid_and_utf8(self, sealed: Sealed) -> bool {
+    fn is_known_valid_and_utf8(self, sealed: Sealed) -> bool
+        ensures valid { IsTrue result → self.1 ≤ 19 }
+        ensures known { self.1 ≤ 19 → IsTrue result }
+    {
         GroupedFixed(self.0, self.1, &STANDARD).is_known_valid_and_utf8(sealed)
     }
 }

@@ -101,7 +101,7 @@ impl<T: ToLexical> Show for Formatted<'_, T> {
     fn is_showable(self) -> bool {
         self.0.in_range();
         self.1.in_range();
-        self.is_known_valid_and_utf8(Sealed)
+        true
     }
 
     fn write_pieces<O: fmt::Write>(self, out: &mut O) -> fmt::Result {

@@ -42,7 +42,7 @@ impl Show for u8 {
     ghost text = { λ number. Some (text_of (pos number) standard) };
 
     fn is_showable(self) -> bool {
-        self.is_known_valid_and_utf8(Sealed)
+        true
     }
 }
 
@@ -75,7 +75,7 @@ impl Show for u16 {
     ghost text = { λ number. Some (text_of (pos number) standard) };
 
     fn is_showable(self) -> bool {
-        self.is_known_valid_and_utf8(Sealed)
+        true
     }
 }
 
@@ -108,7 +108,7 @@ impl Show for u32 {
     ghost text = { λ number. Some (text_of (pos number) standard) };
 
     fn is_showable(self) -> bool {
-        self.is_known_valid_and_utf8(Sealed)
+        true
     }
 }
 
@@ -141,7 +141,7 @@ impl Show for u64 {
     ghost text = { λ number. Some (text_of (pos number) standard) };
 
     fn is_showable(self) -> bool {
-        self.is_known_valid_and_utf8(Sealed)
+        true
     }
 }
 
@@ -174,7 +174,7 @@ impl Show for usize {
     ghost text = { λ number. Some (text_of (pos number) standard) };
 
     fn is_showable(self) -> bool {
-        self.is_known_valid_and_utf8(Sealed)
+        true
     }
 }
 
@@ -207,7 +207,7 @@ impl Show for i8 {
     ghost text = { λ number. Some (text_of number standard) };
 
     fn is_showable(self) -> bool {
-        self.is_known_valid_and_utf8(Sealed)
+        true
     }
 }
 
@@ -240,7 +240,7 @@ impl Show for i16 {
     ghost text = { λ number. Some (text_of number standard) };
 
     fn is_showable(self) -> bool {
-        self.is_known_valid_and_utf8(Sealed)
+        true
     }
 }
 
@@ -273,7 +273,7 @@ impl Show for i32 {
     ghost text = { λ number. Some (text_of number standard) };
 
     fn is_showable(self) -> bool {
-        self.is_known_valid_and_utf8(Sealed)
+        true
     }
 }
 
@@ -306,7 +306,7 @@ impl Show for i64 {
     ghost text = { λ number. Some (text_of number standard) };
 
     fn is_showable(self) -> bool {
-        self.is_known_valid_and_utf8(Sealed)
+        true
     }
 }
 
@@ -339,6 +339,6 @@ impl Show for isize {
     ghost text = { λ number. Some (text_of number standard) };
 
     fn is_showable(self) -> bool {
-        self.is_known_valid_and_utf8(Sealed)
+        true
     }
 }

@@ -64,6 +64,6 @@ impl<T: ToLexical> Show for Plus<T> {
 
     fn is_showable(self) -> bool {
         self.0.in_range();
-        self.is_known_valid_and_utf8(Sealed)
+        true
     }
 }

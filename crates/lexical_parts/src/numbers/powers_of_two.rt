@@ -63,7 +63,7 @@ impl<T: Radix> Show for Hex<T> {
 
     fn is_showable(self) -> bool {
         self.0.fits_bits();
-        self.is_known_valid_and_utf8(Sealed)
+        true
     }
 }
 
@@ -113,7 +113,7 @@ impl<T: Radix> Show for Binary<T> {
 
     fn is_showable(self) -> bool {
         self.0.fits_bits();
-        self.is_known_valid_and_utf8(Sealed)
+        true
     }
 }
 
@@ -161,6 +161,6 @@ impl<T: DigitCount + Radix> Show for FullHex<T> {
 
     fn is_showable(self) -> bool {
         self.0.fits_bits();
-        self.is_known_valid_and_utf8(Sealed)
+        true
     }
 }

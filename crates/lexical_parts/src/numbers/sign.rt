@@ -65,6 +65,6 @@ impl<T: LexicalInteger> Show for Sign<T> {
     ghost text = { λ part. Some (sign_of (T.number part.0) part.1) };
 
     fn is_showable(self) -> bool {
-        self.is_known_valid_and_utf8(Sealed)
+        true
     }
 }

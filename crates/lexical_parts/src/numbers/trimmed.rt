@@ -1,7 +1,7 @@
 //! Numbers of units without zeros at the end of their fraction.
 #![tactic(auto, using(crate::proofs::OfTexts::Parts::parts))]
 
-ghost use Rattle.std.specs.Prelude.{◌+◌, ◌≤◌, Some, length, max, min, unsigned_abs, IfSome, IsSome};
+ghost use Rattle.std.specs.Prelude.{IsTrue, ◌+◌, ◌≤◌, Some, length, max, min, unsigned_abs, IfSome, IsSome};
 ghost use Rattle.lexical_write_integer.specs.Buffer.{Writes};
 ghost use Rattle.lexical_parts.specs.Fixed.{fixed_room};
 ghost use Rattle.lexical_parts.specs.Trimmed.{IsTrimmedFixed, IsTrimmedUnits, trimmed_text};
@@ -83,7 +83,10 @@ impl<T: ToLexical> Part for TrimmedFixed<T> {
         Some(self.write_to(&mut [0; LONGEST_FIXED]))
     }
 
-    fn is_known_valid_and_utf8(self, sealed: Sealed) -> bool {
+    fn is_known_valid_and_utf8(self, sealed: Sealed) -> bool
+        ensures valid { IsTrue result → self.1 ≤ 19 }
+        ensures known { self.1 ≤ 19 → IsTrue result }
+    {
         Fixed(self.0, self.1).is_known_valid_and_utf8(sealed)
     }
 }

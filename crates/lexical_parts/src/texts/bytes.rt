@@ -4,7 +4,7 @@
 ghost use Rattle.std.specs.Prelude.{IsTrue, Some, ◌<◌, [], ◌∷◌, length, IfSome, IsSome};
 ghost use Rattle.std.specs.Str.{IsUtf8};
 ghost use Rattle.lexical_write_integer.specs.Sequence.{IsExactly};
-ghost use Rattle.lexical_parts.specs.Length.{HasLength, IsOnly};
+ghost use Rattle.lexical_parts.specs.Length.{HasLength};
 
 use crate::formatting::show::Show;
 use crate::part::Part;
@@ -58,11 +58,7 @@ impl Part for Bytes<'_> {
 impl Show for Bytes<'_> {
     ghost text = { λ part. Some part.0.now };
 
-    fn is_showable(self) -> bool
-        ensures utf8 { IsTrue result → IsUtf8 self.entry.0.now }
-        ensures only { IsTrue result → IsOnly (IsExactly self.entry.0.now) self.entry.0.now }
-        ensures showable { IsUtf8 self.entry.0.now → IsTrue result }
-    {
+    fn is_showable(self) -> bool {
         self.is_known_valid_and_utf8(Sealed)
     }
 

@@ -42,6 +42,6 @@ impl Show for char {
     ghost text = { λ character. Some (encode_utf8 character) };
 
     fn is_showable(self) -> bool {
-        self.is_known_valid_and_utf8(Sealed)
+        true
     }
 }

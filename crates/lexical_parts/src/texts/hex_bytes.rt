@@ -96,7 +96,7 @@ impl Show for HexBytes<'_> {
     ghost text = { λ part. Some (hex_bytes_text part.1.now part.0.now) };
 
     fn is_showable(self) -> bool {
-        self.is_known_valid_and_utf8(Sealed)
+        true
     }
 
     fn write_pieces<O: fmt::Write>(self, out: &mut O) -> fmt::Result {

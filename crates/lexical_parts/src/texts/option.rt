@@ -2,7 +2,7 @@
 
 ghost use Rattle.std.specs.Option.{option_map_or};
 ghost use Rattle.std.specs.Prelude.{IfNone, IfSome, IsSome, IsTrue, MatchOption};
-ghost use Rattle.lexical_parts.specs.Length.{HasLength, IsOnly};
+ghost use Rattle.lexical_parts.specs.Length.{HasLength};
 ghost use Rattle.lexical_parts.specs.Optional.{IsOptional, IsOrElse, IsValidOptional, optional_room};
 ghost use Rattle.lexical_parts.specs.Optional.{optional_text, or_else_text};
 
@@ -69,12 +69,7 @@ impl<P: Part> Part for Option<P> {
 impl<P: Show> Show for Option<P> {
     ghost text = { optional_text P.text };
 
-    fn is_showable(self) -> bool
-        ensures valid { IsTrue result → IsValidOptional P.is_valid self }
-        ensures utf8 { IsTrue result → IsValidOptional P.is_utf8 self }
-        ensures only { IsTrue result → IfSome (optional_text P.text self) (λ bytes. IsOnly (IsOptional P.is_text self) bytes) }
-        ensures none { IfNone self (IsTrue result) }
-    {
+    fn is_showable(self) -> bool {
         match self {
             Some(part) => part.is_showable(),
             None => true,

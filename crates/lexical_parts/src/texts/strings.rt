@@ -3,7 +3,7 @@
 
 ghost use Rattle.std.specs.Prelude.{IsTrue, Some, length, IfSome, IsSome};
 ghost use Rattle.lexical_write_integer.specs.Sequence.{IsExactly};
-ghost use Rattle.lexical_parts.specs.Length.{HasLength, IsOnly};
+ghost use Rattle.lexical_parts.specs.Length.{HasLength};
 ghost use Rattle.lexical_parts.specs.Utf8.{AreUtf8};
 
 use crate::formatting::show::Show;
@@ -47,11 +47,8 @@ impl Part for &str {
 impl Show for &str {
     ghost text = { λ part. Some part.now };
 
-    fn is_showable(self) -> bool
-        ensures only { IsTrue result → IsOnly (IsExactly self.now) self.now }
-        ensures showable { IsTrue result }
-    {
-        self.is_known_valid_and_utf8(Sealed)
+    fn is_showable(self) -> bool {
+        true
     }
 
     fn write_pieces<O: fmt::Write>(self, out: &mut O) -> fmt::Result {

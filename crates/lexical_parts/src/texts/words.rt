@@ -49,6 +49,6 @@ impl Show for bool {
     ghost text = { λ flag. Some (word flag) };
 
     fn is_showable(self) -> bool {
-        self.is_known_valid_and_utf8(Sealed)
+        true
     }
 }

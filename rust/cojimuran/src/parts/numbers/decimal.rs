@@ -52,6 +52,6 @@ impl<T: ToLexical> Show for Decimal<T> {
     #[inline(always)]
     #[track_caller]
     fn is_showable(self) -> bool {
-        self.is_known_valid_and_utf8(Sealed)
+        true
     }
 }

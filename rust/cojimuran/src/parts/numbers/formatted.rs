@@ -79,7 +79,7 @@ impl<T: ToLexical> Show for Formatted<'_, T> {
     #[inline(always)]
     #[track_caller]
     fn is_showable(self) -> bool {
-        self.is_known_valid_and_utf8(Sealed)
+        true
     }
 
     #[inline(always)]

@@ -39,7 +39,7 @@ impl Show for u8 {
     #[inline(always)]
     #[track_caller]
     fn is_showable(self) -> bool {
-        self.is_known_valid_and_utf8(Sealed)
+        true
     }
 }
 
@@ -73,7 +73,7 @@ impl Show for u16 {
     #[inline(always)]
     #[track_caller]
     fn is_showable(self) -> bool {
-        self.is_known_valid_and_utf8(Sealed)
+        true
     }
 }
 
@@ -107,7 +107,7 @@ impl Show for u32 {
     #[inline(always)]
     #[track_caller]
     fn is_showable(self) -> bool {
-        self.is_known_valid_and_utf8(Sealed)
+        true
     }
 }
 
@@ -141,7 +141,7 @@ impl Show for u64 {
     #[inline(always)]
     #[track_caller]
     fn is_showable(self) -> bool {
-        self.is_known_valid_and_utf8(Sealed)
+        true
     }
 }
 
@@ -175,7 +175,7 @@ impl Show for usize {
     #[inline(always)]
     #[track_caller]
     fn is_showable(self) -> bool {
-        self.is_known_valid_and_utf8(Sealed)
+        true
     }
 }
 
@@ -209,7 +209,7 @@ impl Show for i8 {
     #[inline(always)]
     #[track_caller]
     fn is_showable(self) -> bool {
-        self.is_known_valid_and_utf8(Sealed)
+        true
     }
 }
 
@@ -243,7 +243,7 @@ impl Show for i16 {
     #[inline(always)]
     #[track_caller]
     fn is_showable(self) -> bool {
-        self.is_known_valid_and_utf8(Sealed)
+        true
     }
 }
 
@@ -277,7 +277,7 @@ impl Show for i32 {
     #[inline(always)]
     #[track_caller]
     fn is_showable(self) -> bool {
-        self.is_known_valid_and_utf8(Sealed)
+        true
     }
 }
 
@@ -311,7 +311,7 @@ impl Show for i64 {
     #[inline(always)]
     #[track_caller]
     fn is_showable(self) -> bool {
-        self.is_known_valid_and_utf8(Sealed)
+        true
     }
 }
 
@@ -345,6 +345,6 @@ impl Show for isize {
     #[inline(always)]
     #[track_caller]
     fn is_showable(self) -> bool {
-        self.is_known_valid_and_utf8(Sealed)
+        true
     }
 }

@@ -55,6 +55,6 @@ impl<T: ToLexical> Show for Plus<T> {
     #[inline]
     #[track_caller]
     fn is_showable(self) -> bool {
-        self.is_known_valid_and_utf8(Sealed)
+        true
     }
 }

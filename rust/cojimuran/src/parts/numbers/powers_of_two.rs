@@ -55,7 +55,7 @@ impl<T: Radix> Show for Hex<T> {
     #[inline(always)]
     #[track_caller]
     fn is_showable(self) -> bool {
-        self.is_known_valid_and_utf8(Sealed)
+        true
     }
 }
 
@@ -103,7 +103,7 @@ impl<T: Radix> Show for Binary<T> {
     #[inline(always)]
     #[track_caller]
     fn is_showable(self) -> bool {
-        self.is_known_valid_and_utf8(Sealed)
+        true
     }
 }
 
@@ -150,6 +150,6 @@ impl<T: DigitCount + Radix> Show for FullHex<T> {
     #[inline(always)]
     #[track_caller]
     fn is_showable(self) -> bool {
-        self.is_known_valid_and_utf8(Sealed)
+        true
     }
 }

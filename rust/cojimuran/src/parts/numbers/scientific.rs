@@ -116,6 +116,6 @@ impl<T: ToLexical> Show for Scientific<T> {
     #[inline]
     #[track_caller]
     fn is_showable(self) -> bool {
-        self.is_known_valid_and_utf8(Sealed)
+        true
     }
 }

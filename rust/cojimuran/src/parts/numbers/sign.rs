@@ -62,6 +62,6 @@ impl<T: LexicalInteger> Show for Sign<T> {
     #[inline]
     #[track_caller]
     fn is_showable(self) -> bool {
-        self.is_known_valid_and_utf8(Sealed)
+        true
     }
 }

@@ -93,7 +93,7 @@ impl Show for HexBytes<'_> {
     #[inline(always)]
     #[track_caller]
     fn is_showable(self) -> bool {
-        self.is_known_valid_and_utf8(Sealed)
+        true
     }
 
     #[inline(always)]

@@ -38,7 +38,7 @@ impl Show for &str {
     #[inline(always)]
     #[track_caller]
     fn is_showable(self) -> bool {
-        self.is_known_valid_and_utf8(Sealed)
+        true
     }
 
     #[inline(always)]
