@@ -191,7 +191,7 @@ mod misuse;
 /// | cannot borrow `buffer` as mutable more than once | a buffer for each text that you keep |
 /// | temporary value dropped while borrowed | the array in a variable of its own: `let mut buffer = [0; 64];` |
 /// | mismatched types, for `Joined(vector, ",")` or `Joined(iterator, ",")` | `Joined(&vector, ",")`; for an iterator a loop, or a vector of what it yields |
-/// | evaluation panicked: assertion failed: `is_radix(RADIX as u64)` | a radix from 2 to 36 in `InRadix::<36, _>(number)` |
+/// | evaluation panicked: the radix is not from 2 to 36 | a radix from 2 to 36 in `InRadix::<36, _>(number)` |
 /// | `NonZero<u64>` is not a part | `number.get()` |
 /// | no method named `write_pieces` | `use cojimuran::Show` |
 /// | `Stdout: std::fmt::Write` is not satisfied, or `File` or `Vec<u8>` in its place | `out.write_all(line.to_text(&mut buffer))`, or `write!(out, "{}", Shown(line))`; for a `Vec` also `line.append_to(&mut vec)` |

@@ -74,7 +74,10 @@ pub(crate) const RULES: &[(&str, &[(&str, &str)])] = &[
     // In Rattle a radix that is not from 2 to 36 is refused by a `requires`, and here when the call is compiled.
     (
         "lexical_parts/numbers/digits.rt",
-        &[("Digits(RADIX, self.0)", "const { assert!(is_radix(RADIX as u64)) }; Digits(RADIX, self.0)")],
+        &[(
+            "Digits(RADIX, self.0)",
+            r#"const { assert!(is_radix(RADIX as u64), "the radix is not from 2 to 36") }; Digits(RADIX, self.0)"#,
+        )],
     ),
     (
         "lexical_lines",

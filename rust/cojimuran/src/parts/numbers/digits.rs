@@ -115,7 +115,7 @@ impl<const RADIX: u32, T> InRadix<RADIX, T> {
     #[inline(always)]
     #[track_caller]
     fn digits(self) -> Digits<T> {
-        const { assert!(is_radix(RADIX as u64)) };
+        const { assert!(is_radix(RADIX as u64), "the radix is not from 2 to 36") };
         Digits(RADIX, self.0)
     }
 }
