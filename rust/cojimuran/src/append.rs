@@ -127,7 +127,7 @@ impl AppendTarget for String {
         if part.write_pieces(self).is_err() {
             self.truncate(start);
             panic!(
-                "the part is not valid, or the text is not UTF-8, or a `Display` returned an error"
+                "the part is not valid, or the text is not UTF-8, or a `Display` or a part of another crate returned an error"
             );
         }
     }
