@@ -28,8 +28,8 @@ use std::fmt;
 /// If the radix is a constant in the expression that writes the part, as below, your program has only the code of that
 /// radix. If you pass the part on, make it an [`InRadix`](super::super::InRadix), which has its radix in its type. If
 /// the radix is known only at run time, your program has [the code of every
-/// radix](crate::costs#a-radix-that-is-known-only-at-run-time), which is 65 KB or more. `write_pieces` and `{}` take a
-/// tenth of that, because they divide once for each digit.
+/// radix](crate::costs#a-radix-that-is-known-only-at-run-time), which is 35 KB for a `u8` and 67 KB for a `u64`.
+/// `write_pieces` and `{}` add 4 to 8 KB instead, because they divide once for each digit.
 ///
 /// ```
 /// use lexical_parts::{Digits, Lower, Part};

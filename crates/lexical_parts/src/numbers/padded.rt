@@ -43,7 +43,8 @@ fn has_few_bits(number: u64, radix: u32, width: usize) -> bool
 ///
 /// If the radix is a constant where you call `to_str`, your program has only the code of that radix. If it is known
 /// only at run time, your program has [the code of every radix](crate::costs#a-radix-that-is-known-only-at-run-time),
-/// which is 65 KB or more. `write_pieces` and `{}` take a tenth of that, because they divide once for each digit.
+/// which is 39 KB for a `u8` and 80 KB for a `u64`. `write_pieces` and `{}` add 4 to 9 KB instead, because they divide
+/// once for each digit.
 ///
 /// ```
 /// use lexical_parts::{PaddedDigits, Part};

@@ -14,8 +14,8 @@ pub(crate) const MOST_IN_ONE_PIECE: usize = 256;
 /// All parts of this crate implement it, and so do tuples, columns and [`Joined`](super::super::Joined) of them. Many
 /// of them, such as `Hex`, also have `Display`, so you can write them in a format string without `Shown`.
 ///
-/// If you implement this trait for a part of your own, it can be written in both ways, alone or in a tuple. You must
-/// define `is_showable`, and `write_pieces` too if the room of the part can be above 256 bytes.
+/// If you implement this trait for a part of your own, the part works in `write_pieces` and in `Shown`, alone and in
+/// tuples. You must define `is_showable`, and `write_pieces` too if the room of the part can be above 256 bytes.
 ///
 /// ```
 /// use cojimuran::{Hex, Show, Shown};
@@ -32,7 +32,8 @@ pub(crate) const MOST_IN_ONE_PIECE: usize = 256;
 )]
 pub trait Show: Part {
     /// Returns whether the part is valid and its text is UTF-8, as `to_str` requires. If it returns `false`, `{}` and
-    /// `write_pieces` of the part return an error. For a part of your own that is always valid, return `true`.
+    /// `write_pieces` of the part return an error. For a part of your own that is always valid, and whose text is always
+    /// UTF-8, return `true`.
     #[must_use]
     fn is_showable(self) -> bool;
 
@@ -44,8 +45,9 @@ pub trait Show: Part {
     /// # Errors
     ///
     /// Returns the error of the writer, or an error if the part is not valid or its text is not UTF-8. For a part of
-    /// your own it also returns an error if its room is above 256 bytes and you do not define this method, or if it
-    /// does not write the same text each time. If it returns an error, the writer may have a part of the text.
+    /// your own it also returns an error if its room is above 256 bytes and you do not define this method. A column or
+    /// a `ZeroPadded` also returns an error if the part in it does not write as many bytes each time. If this method
+    /// returns an error, the writer may have a part of the text.
     #[inline(always)]
     #[track_caller]
     fn write_pieces<O: fmt::Write>(self, out: &mut O) -> fmt::Result {

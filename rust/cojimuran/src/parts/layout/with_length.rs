@@ -8,7 +8,7 @@ use crate::write_integer::padded::write_padded;
 /// Writes the length of a part plus `extra` in `width` digits of the radix, and then the part.
 ///
 /// Returns the length of the part alone, without the digits before it. Later bytes are unchanged. The part must be
-/// valid, its room plus `extra` below `radix^width`, and the buffer as long as `width` and the room.
+/// valid, its room plus `extra` below `radix^width`, and the buffer at least `width` plus the room bytes long.
 ///
 /// ```
 /// use cojimuran::write_with_length;

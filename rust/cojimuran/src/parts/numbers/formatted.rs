@@ -30,7 +30,8 @@ fn largest_magnitude<T: ToLexical>() -> u64 {
 ///
 /// If the format is a constant where you call `to_str`, your program has only the code of its radix. If it is known
 /// only at run time, your program has [the code of every radix](crate::costs#a-radix-that-is-known-only-at-run-time),
-/// which is 65 KB or more. `write_pieces` and `{}` take a tenth of that, because they divide once for each digit.
+/// which is 36 KB for a `u8` and 69 KB for a `u64`. `write_pieces` and `{}` add 5 to 12 KB instead, because they divide
+/// once for each digit.
 ///
 /// ```
 /// use cojimuran::{Formatted, Part};
