@@ -43,11 +43,13 @@
  * reads it. Invalid values of its fields are safe: lexical_check_format names the first
  * invalid field, and every other function that takes a format returns 0.
  *
- * Buffer. `buffer` points to `size` bytes that the call may write. The size must not
- * exceed PTRDIFF_MAX. The pointer may be NULL if the size is 0. The buffer must not
+ * Buffer. `buffer` points to `size` bytes that the call may write, and may be NULL if the
+ * size is 0. A size above PTRDIFF_MAX counts as 0, because no buffer is so large: it is
+ * the result of a subtraction such as `size - 2` for a size of 1. The buffer must not
  * overlap the format, and during the call no other thread may use the buffer. It need not
- * be initialized, except for the text that you pass to lexical_pad. The call writes nothing
- * outside the buffer, and keeps no pointer to it. Bytes after the text keep their values.
+ * be initialized, except for the text that you pass to lexical_pad. (The page README.md of
+ * the library says what Rust thinks of that.) The call writes nothing outside the buffer,
+ * and keeps no pointer to it. Bytes after the text keep their values.
  *
  * Size of the buffer. LEXICAL_BUFFER_SIZE bytes are enough for every number of every
  * type in every format. A terminating NUL needs one byte more.

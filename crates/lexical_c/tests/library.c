@@ -271,6 +271,24 @@ static void check_long_buffers(void)
         }
 }
 
+#ifdef BY_rustc
+/* Checks that a size above PTRDIFF_MAX counts as 0. Only the library that rustc builds promises that. */
+static void check_sizes_that_wrapped_around(void)
+{
+    static const size_t SIZES[] = { SIZE_MAX, SIZE_MAX - 1, (size_t)PTRDIFF_MAX + 1 };
+    const struct lexical_format format = FORMAT(36, 0, 0, 0, 0);
+    for (int i = 0; i < 3; i++) {
+        char text[] = "12345678";
+        for (size_t t = 0; t < TYPE_COUNT; t++)
+            check(TYPES[t].call(DECIMAL, 7, &format, text, SIZES[i]) == 0
+                  && TYPES[t].call(WRITE, 7, &format, text, SIZES[i]) == 0, "a size of %zu\n", SIZES[i]);
+        check(lexical_pad(1, 3, text, SIZES[i]) == 0 && lexical_terminate(1, text, SIZES[i]) == 0,
+              "an ending in a size of %zu\n", SIZES[i]);
+        check(strcmp(text, "12345678") == 0, "a text in a size of %zu\n", SIZES[i]);
+    }
+}
+#endif
+
 /* Checks zeros up to a width, as snprintf writes them, and strings, with buffers of each length. */
 static void check_endings(void)
 {
@@ -312,6 +330,9 @@ int main(void)
     check_conversion();
     check_formats();
     check_long_buffers();
+#ifdef BY_rustc
+    check_sizes_that_wrapped_around();
+#endif
     check_endings();
     return EXIT_SUCCESS;
 }

@@ -21,6 +21,6 @@ instructions_are_within_limits() {
 }
 
 check_library() {
-  expect 'library.c' runs_with "$CC" '-std=c99 -O1' "$crate/tests/library.c"
+  expect 'library.c' runs_with "$CC" "-std=c99 -O1 -DBY_$builder" "$crate/tests/library.c"
   [ -n "$TARGET" ] || expect_with valgrind 'instructions.c' instructions_are_within_limits
 }

@@ -20,12 +20,14 @@ macro_rules! export {
     ($($module:ident::$name:ident($($argument:ident: $type:ty),*)),* $(,)?) => { $(
         #[unsafe(no_mangle)]
         unsafe extern "C" fn $name($($argument: $type,)* buffer: *mut u8, size: usize) -> usize {
-            if size == 0 {
-                return 0; // The pointer may be NULL, which is no slice, and no text fits.
+            // If the size is 0, the pointer may be NULL, which is no slice. No buffer has more than PTRDIFF_MAX bytes:
+            // such a size is a difference that was negative in the caller. In both cases no text fits.
+            if size as isize <= 0 {
+                return 0;
             }
-            // SAFETY: `lexical.h` requires of the caller that `buffer` points to `size` bytes, at most PTRDIFF_MAX,
-            // that may be written, that they do not overlap the format, and that nothing else uses them during the
-            // call. The caller may not have initialized them, but no compiler sees its code together with this.
+            // SAFETY: `lexical.h` requires of the caller that `buffer` points to `size` bytes that may be written, that
+            // they do not overlap the format, and that nothing else uses them during the call. They are at most
+            // PTRDIFF_MAX. The caller may not have initialized them, but no compiler sees its code together with this.
             let buffer = unsafe { core::slice::from_raw_parts_mut(buffer, size) };
             $module::$name($($argument,)* buffer)
         }
