@@ -6,7 +6,7 @@
  *   lexical_write(value, format, buffer, size)  writes a number in a format
  *   lexical_length(value, format)               returns the length of such a text
  *   lexical_buffer_size_T(format)               returns a buffer size for every number of a type
- *   lexical_check_format(format)                tells which field of a format is invalid
+ *   lexical_check_format(format)                returns 0, or which field is invalid
  *   lexical_pad(count, width, buffer, size)     inserts zeros after the sign of a text
  *   lexical_terminate(count, buffer, size)      writes a NUL after a text
  *   lexical_version()                           returns the version of the library
@@ -47,9 +47,10 @@
  * size is 0. A size above PTRDIFF_MAX counts as 0, because no buffer is so large: it is
  * the result of a subtraction such as `size - 2` for a size of 1. The buffer must not
  * overlap the format, and during the call no other thread may use the buffer. It need not
- * be initialized, except for the text that you pass to lexical_pad. (The page README.md of
- * the library says what Rust thinks of that.) The call writes nothing outside the buffer,
- * and keeps no pointer to it. Bytes after the text keep their values.
+ * be initialized, except for the text that you pass to lexical_pad. (Rust would not allow
+ * that, but it is harmless unless one compiler sees the code of your program together with
+ * that of the library.) The call writes nothing outside the buffer, and keeps no pointer to
+ * it. Bytes after the text keep their values.
  *
  * Size of the buffer. LEXICAL_BUFFER_SIZE bytes are enough for every number of every
  * type in every format. A terminating NUL needs one byte more.
@@ -57,15 +58,15 @@
  * Errors. A call that writes returns the length of the text, without a NUL. A text is never
  * empty, so 0 means an error: the format is invalid or the text does not fit. The buffer is
  * then unchanged, except by lexical_terminate, which makes it an empty string, unless
- * `size` is 0. To tell which error it was, call lexical_check_format(format). If it returns
- * 0, the buffer was too short. No call changes errno.
+ * `size` is 0. To find the cause, call lexical_check_format(format). If it returns 0, the
+ * buffer was too short. No call changes errno.
  *
  * Threads and signals. The functions have no state and allocate nothing. So you can call
  * them in any thread and in any signal handler, if during the call nothing else uses the
  * buffer or changes the format.
  *
- * Proof. The sources of the library were proved by a prover that is not public. The
- * compiled library and this header are tested, and not proved.
+ * Proof. The sources of the library were proved correct by a prover that is not public.
+ * The compiled library and this header are tested, and not proved.
  *
  * Names. All names begin with lexical_ or LEXICAL_. Those that begin with
  * lexical_private_ or LEXICAL_PRIVATE_ may change in any version, so do not use them.
@@ -205,8 +206,8 @@ size_t lexical_decimal_i64(int64_t value, char *buffer, size_t size) LEXICAL_NOE
  *
  * In C89, and in C++ before C++20, write the fields in their order, { 10, 0, 3, ',' }, or
  * initialize a variable with LEXICAL_RADIX(10), and then set its fields. (In C, C++98 and
- * C++11, -Wextra warns of fields that are left out of such a list.) Without an
- * initializer all fields of a local variable are indeterminate; from C++14 on only its radix is.
+ * C++11, -Wextra warns of fields that are left out of such a list.) A local variable
+ * without an initializer has indeterminate fields; from C++14 on only its radix is so.
  *
  * From C++14 on, each field after the radix has the default value 0, so the default
  * constructor is not trivial. To clear a format write `format = {}`, because g++ warns of

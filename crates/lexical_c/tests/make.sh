@@ -37,9 +37,15 @@ is_hardened() {
   fails grep TEXTREL "$work/read" || stop 'code that is not changed'
 }
 
+# Whether LLVM's tools build both libraries in place of GNU binutils.
+builds_with_llvm() {
+  make -s -C "$copy/crates/lexical_c" BUILD="$work/llvm" AR=llvm-ar LDFLAGS=-fuse-ld=lld CC="$CC" TARGET="$TARGET" check
+}
+
 check_make() {
   expect 'the TARGET of make' takes_target
   expect 'what make links' links_after_changes
   expect 'the hardening of the shared library' is_hardened
   expect 'make check' prints 'the static and the shared library have passed' make_c check
+  [ "$builder" = rt ] || expect_with 'ld.lld llvm-ar' "LLVM's tools" builds_with_llvm
 }

@@ -29,6 +29,15 @@ shows_manual() {
   prints '' cat "$work/said" || stop 'no warning'
 }
 
+# Whether the program in the manual prints what stands above it there.
+runs_example_of_manual() {
+  sed -n '/^#include <lexical.h>$/,/^[.]EE$/{ /^[.]EE$/d; s/\\e/\\/g; p; }' "$crate/package/lexical_write.3.in" \
+    > "$work/manual.c"
+  prints 3,735,928,559 runs_with "$CC" -std=c99 "$work/manual.c" || stop 'what it prints without an argument'
+  prints DE,ADB,EEF "$work/program" 16 || stop 'what it prints in radix 16'
+  fails "$work/program" 37 || stop 'an error in radix 37'
+}
+
 check_names() {
   wanted=$($CC -E -P "$crate/include/lexical.h" | sed -n 's/.*_t \(lexical_[a-z0-9_]*\)(.*/\1/p' | LC_ALL=C sort)
   expect 'the names of the archive are those of the header' prints "$wanted" names '-g --defined-only' "$library"
@@ -37,4 +46,5 @@ check_names() {
   expect 'the names of released versions are in their nodes' keeps_released_names
   expect 'what the archive uses' prints "$imported" imported_names
   expect_with man 'the manual' shows_manual
+  expect 'the example of the manual' runs_example_of_manual
 }

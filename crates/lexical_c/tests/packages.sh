@@ -26,7 +26,7 @@ unpacks_deb() {
     stop 'lintian'
   for file in ../liblexical-c1_*.deb ../liblexical-c-dev_*.deb; do dpkg-deb -x "$file" "$root" || stop "$file"; done
   documents=$root/usr/share/doc/liblexical-c-dev
-  ls "$documents/README.Debian" || stop 'the documentation'
+  ls "$documents"/README.md* || stop 'the documentation'
   mkdir ../autopkgtest || stop 'a folder for autopkgtest'
   AUTOPKGTEST_TMP=$PWD/../autopkgtest CMAKE_PREFIX_PATH="$root/usr" debian/tests/cmake || stop 'debian/tests/cmake'
 }
