@@ -35,7 +35,7 @@ pub trait Append: Show {
     /// Appends the text to a `Vec<u8>` or a `String`. The part must be valid, and for a `String` its text must be
     /// UTF-8, as [`to_str`](crate::Part::to_str) says.
     ///
-    /// If the room is at most 256 bytes, also with the longest number of each type, the text is written in one piece, and
+    /// If the text could not exceed 256 bytes even with the longest numbers of its types, it is written in one piece, and
     /// the target grows by its length. A longer one goes to a `String` in pieces, as by
     /// [`write_pieces`](Show::write_pieces), and for a `Vec` its whole [`room`](crate::Part::room) may be reserved. A
     /// `String` also gets a text in pieces if a [`Displayed`](crate::Displayed), a reference to a `String` or a part of

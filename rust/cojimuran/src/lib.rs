@@ -23,9 +23,9 @@
 //! | a part in a file, `stdout` or any other `io::Write` | `file.write_all(part.to_text(&mut buffer))?` or `write!(file, "{}", Shown(part))?` |
 //!
 //! An array must have [`part.room()`](Part::room) bytes, otherwise `to_str`
-//! [panics](conditions#what-happens-otherwise). (It does not count a [`Displayed`].) [A
-//! table](conditions#how-long-a-buffer-must-be) has the room of each part. Write a text of unknown length with `write_pieces`, which needs no array. [`BUFFER_SIZE`] bytes are enough for
-//! one number in any format.
+//! [panics](conditions#what-happens-otherwise). (`to_str` counts a [`Displayed`] as 0 bytes.) [A
+//! table](conditions#how-long-a-buffer-must-be) has the room of each part. Write a text of unknown length with
+//! `write_pieces`, which needs no array. [`BUFFER_SIZE`] bytes are enough for one number in any format.
 //!
 //! A `char`, a `bool`, an `Option` of a part and a reference to a part are also parts, and with the feature `alloc` a
 //! reference to a `String`. This crate has these parts:
@@ -182,7 +182,7 @@ mod misuse;
 /// | `i32` is not an unsigned integer type, or `to_str` exists for `Hex<i32>`, but its trait bounds were not satisfied | an unsigned number, such as `Hex(255u8)`, or for a negative number in a radix `Formatted(number, &FORMAT)` |
 /// | `(f64, u8)` is not a part, or `to_str` exists for `(u128, &str)`, but its trait bounds were not satisfied | `Displayed(&value)` for the member that is not a part |
 /// | `u128` is not an unsigned integer type, or `to_str` exists for `Hex<u128>`, but its trait bounds were not satisfied | `Displayed(&number)`, or in hexadecimal `Displayed(&format_args!("{number:X}"))` |
-/// | `T` is not a part, for a type parameter with `T: ToLexical` | `Decimal(value)` |
+/// | `T` is not a part, for a type parameter with `T: ToLexical`, or `to_str` exists for `(T, &'static str)`, but its trait bounds were not satisfied | `Decimal(value)` |
 /// | a tuple of parts with more than 12 members is not a part | tuples in a tuple |
 /// | `(String, u8)` is not a part, or `to_str` exists for `(&str, &String)`, but its trait bounds were not satisfied | `string.as_str()`, or, with the feature `alloc`, `&string`; for an `Rc<str>` `&*text` |
 /// | `to_str` exists for `Joined<'_, String>`, but its trait bounds were not satisfied | a list of `&str`: `Joined(&strings.iter().map(String::as_str).collect::<Vec<_>>(), ",")` |

@@ -7,7 +7,7 @@ mod number_of_128_bits;
 
 use cojimuran::{
     BUFFER_SIZE, Binary, Buffer, Center, Digits, Displayed, Fixed, Formatted, FormattedSize, Hex, Left, Lower,
-    NumberFormat, NumberFormatBuilder, Options, Padded, Part, Plus, Right, Show, Shown, ToLexical,
+    NumberFormat, NumberFormatBuilder, Options, Padded, Part, Plus, Right, Scientific, Show, Shown, ToLexical,
     ToLexicalWithOptions, ZeroPadded,
 };
 use number_of_128_bits::{format_i128, format_u128};
@@ -23,7 +23,10 @@ fn from_format_and_write() -> std::io::Result<()> {
     assert_eq!(kept, "7");
 
     let mut text = String::new();
+    (a, ",", b).write_pieces(&mut text).unwrap();
+    assert_eq!(text, format!("{a},{b}"));
     assert_eq!(Shown((a, ",", b)).to_string(), format!("{a},{b}"));
+    text.clear();
     (a, ",", b, "\n").write_pieces(&mut text).unwrap();
     assert_eq!(text, format!("{a},{b}\n"));
     file.write_all((a, ",", b, "\n").to_text(&mut buffer))?;
@@ -52,6 +55,8 @@ fn from_format_and_write() -> std::io::Result<()> {
         assert_eq!(Plus(number).to_str(&mut buffer), format!("{number:+}"));
     }
     assert_eq!(("0x", Lower(Hex(number))).to_str(&mut buffer), format!("{number:#x}"));
+    let number = 1200;
+    assert_eq!(Scientific(number, 0).to_str(&mut buffer), format!("{number:e}"));
     assert_eq!(Fixed(cents, 2).to_str(&mut buffer), format!("{}.{:02}", cents / 100, cents % 100));
     Ok(())
 }
