@@ -2,7 +2,8 @@
 
 use std::fmt;
 
-/// The result of building: the value, or the error.
+/// The result of building: the value, or the error. `Result<T, E>` with another error is that of the standard library,
+/// so an import of all names of this crate does not change what it means.
 ///
 /// ```
 /// use lexical_write_integer::{NumberFormat, NumberFormatBuilder, Result};
@@ -12,7 +13,7 @@ use std::fmt;
 /// }
 /// assert!(rt; format(36).is_ok() && format(37).is_err());
 /// ```
-pub type Result<T> = std::result::Result<T, Error>;
+pub type Result<T, E = Error> = std::result::Result<T, E>;
 
 /// Why a format is not valid: its first invalid field, with the value of that field.
 ///

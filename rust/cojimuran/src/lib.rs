@@ -199,7 +199,6 @@ mod misuse;
 /// | cannot call non-const method `<u64 as Part>::room` in constants | the sum of the rooms of the parts, from [a table](conditions#how-long-a-buffer-must-be) |
 /// | no method named `append_to`, or unresolved import `cojimuran::Append` | `use cojimuran::Append`, and the feature `alloc` |
 /// | `(&str, u8)` doesn't implement `Display` | `Shown((..))` |
-/// | type alias takes 1 generic argument but 2 generic arguments were supplied | the names that you use, in place of `use cojimuran::*`, which also imports a `Result` |
 #[cfg(doc)]
 pub mod compile_errors {}
 

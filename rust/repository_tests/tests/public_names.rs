@@ -58,6 +58,7 @@ fn traits_of_formats() {
     is_options::<Options>();
     assert_eq!((NumberFormatBuilder::default().build().unwrap(), NumberFormat::default()), (STANDARD, STANDARD));
     let _: Result<NumberFormat> = Err(Error::InvalidGroupMark(b'0'));
+    let _: Result<u8, std::num::ParseIntError> = "7".parse();
 }
 
 #[test]

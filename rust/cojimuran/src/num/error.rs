@@ -4,7 +4,8 @@
 
 use core::fmt;
 
-/// The result of building: the value, or the error.
+/// The result of building: the value, or the error. `Result<T, E>` with another error is that of the standard library,
+/// so an import of all names of this crate does not change what it means.
 ///
 /// ```
 /// use cojimuran::{NumberFormat, NumberFormatBuilder, Result};
@@ -14,7 +15,7 @@ use core::fmt;
 /// }
 /// assert!(format(36).is_ok() && format(37).is_err());
 /// ```
-pub type Result<T> = core::result::Result<T, Error>;
+pub type Result<T, E = Error> = core::result::Result<T, E>;
 
 /// Why a format is not valid: its first invalid field, with the value of that field.
 ///
