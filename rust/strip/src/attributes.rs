@@ -45,13 +45,13 @@ message = "`{Self}` is not an integer type that this crate writes",
 note = "it writes `u8` to `u64`, `usize`, `i8` to `i64` and `isize`; `Displayed(&value)` writes what has `Display`")]"#;
 pub(crate) const NOT_UNSIGNED: &str = r#"#[diagnostic::on_unimplemented(
 message = "`{Self}` is not an unsigned integer type that this crate writes",
-note = "a literal needs a type, such as `255u8`; a signed number in a radix is written by `Formatted`, and one of \
-    128 bits by `Displayed`")]"#;
+note = "a literal needs a type, such as `255u8`; a signed number in a radix is written by `Formatted`, one with \
+    leading zeros by `ZeroPadded`, and one of 128 bits by `Displayed`")]"#;
 pub(crate) const NO_PART: &str = r#"#[diagnostic::on_unimplemented(
 message = "`{Self}` is not a part",
-note = "a value with `Display` is a part as `Displayed(&value)`; a tuple has 2 to 12 members; \
-    references to a `String` need the feature `alloc`")]"#;
+note = "pass a `String` as `string.as_str()`, and another value with `Display` as `Displayed(&value)`; a tuple has \
+    2 to 12 members")]"#;
 pub(crate) const NO_SHOW: &str = r#"#[diagnostic::on_unimplemented(
 message = "`{Self}` is not a part with `Show`",
-note = "a value with `Display` is a part as `Displayed(&value)`; implement `Show` for a part of your own; \
-    a tuple has 2 to 12 members")]"#;
+note = "pass a `String` as `string.as_str()`, and another value with `Display` as `Displayed(&value)`; implement \
+    `Show` for a part of your own; a tuple has 2 to 12 members")]"#;

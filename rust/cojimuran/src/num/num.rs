@@ -180,8 +180,8 @@ impl LexicalInteger for isize {
 /// ```
 #[diagnostic::on_unimplemented(
     message = "`{Self}` is not an unsigned integer type that this crate writes",
-    note = "a literal needs a type, such as `255u8`; a signed number in a radix is written by `Formatted`, and one of \
-    128 bits by `Displayed`"
+    note = "a literal needs a type, such as `255u8`; a signed number in a radix is written by `Formatted`, one with \
+    leading zeros by `ZeroPadded`, and one of 128 bits by `Displayed`"
 )]
 pub trait UnsignedInteger: LexicalInteger {
     /// Converts a number that fits the type.

@@ -25,8 +25,8 @@ use core::str::{from_utf8, from_utf8_unchecked};
 /// ```
 #[diagnostic::on_unimplemented(
     message = "`{Self}` is not a part",
-    note = "a value with `Display` is a part as `Displayed(&value)`; a tuple has 2 to 12 members; \
-    references to a `String` need the feature `alloc`"
+    note = "pass a `String` as `string.as_str()`, and another value with `Display` as `Displayed(&value)`; a tuple has \
+    2 to 12 members"
 )]
 pub trait Part: Copy {
     /// Returns the room: a length of a buffer that is always enough for the text, or `usize::MAX` if that length does

@@ -27,8 +27,8 @@ pub(crate) const MOST_IN_ONE_PIECE: usize = 256;
 /// ```
 #[diagnostic::on_unimplemented(
     message = "`{Self}` is not a part with `Show`",
-    note = "a value with `Display` is a part as `Displayed(&value)`; implement `Show` for a part of your own; \
-    a tuple has 2 to 12 members"
+    note = "pass a `String` as `string.as_str()`, and another value with `Display` as `Displayed(&value)`; implement \
+    `Show` for a part of your own; a tuple has 2 to 12 members"
 )]
 pub trait Show: Part {
     /// Returns whether the part is valid and its text is UTF-8, as `to_str` requires. If it returns `false`, `{}` and

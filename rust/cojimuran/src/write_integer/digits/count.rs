@@ -101,8 +101,8 @@ pub fn most_digits<T: UnsignedInteger>(radix: u32) -> usize {
 /// An unsigned integer type whose digits are counted in every radix.
 #[diagnostic::on_unimplemented(
     message = "`{Self}` is not an unsigned integer type that this crate writes",
-    note = "a literal needs a type, such as `255u8`; a signed number in a radix is written by `Formatted`, and one of \
-    128 bits by `Displayed`"
+    note = "a literal needs a type, such as `255u8`; a signed number in a radix is written by `Formatted`, one with \
+    leading zeros by `ZeroPadded`, and one of 128 bits by `Displayed`"
 )]
 pub trait DigitCount: DecimalCount {
     /// Returns how many digits the number has. The radix is from 2 to 36.

@@ -137,8 +137,8 @@ pub fn write_in_constant_radix<T: UnsignedInteger>(
 /// An unsigned integer type whose digits are written in every radix.
 #[diagnostic::on_unimplemented(
     message = "`{Self}` is not an unsigned integer type that this crate writes",
-    note = "a literal needs a type, such as `255u8`; a signed number in a radix is written by `Formatted`, and one of \
-    128 bits by `Displayed`"
+    note = "a literal needs a type, such as `255u8`; a signed number in a radix is written by `Formatted`, one with \
+    leading zeros by `ZeroPadded`, and one of 128 bits by `Displayed`"
 )]
 pub trait Radix: UnsignedInteger {
     /// Writes the digits of the number to the start of the buffer, and returns how many there are. The
