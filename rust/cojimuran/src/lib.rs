@@ -41,7 +41,7 @@
 //! | [`Plus`] | a number in decimal with a `+` or a `-` |
 //! | [`Scientific`] | a number with an exponent, such as `1.234e-56` |
 //! | [`Left`], [`Right`], [`Center`] | a part in a column |
-//! | [`Joined`], [`OrElse`] | the parts of a slice with separators, or a part in the place of `None` |
+//! | [`Joined`], [`OrElse`] | the parts of a slice with separators, or a part in place of `None` |
 //! | [`Bytes`], [`HexBytes`], [`Byte`] | bytes, or bytes in hexadecimal |
 //! | [`Sign`] | the sign of a number, or nothing |
 //! | [`Displayed`] | any value with `Display`, such as a float or a `u128` |
@@ -179,11 +179,14 @@ mod misuse;
 ///
 /// | rustc says | write |
 /// |---|---|
-/// | `i32` is not an unsigned integer type, or `to_str` exists for `Hex<i32>`, but its trait bounds were not satisfied | an unsigned number, such as `Hex(255u8)`, or for a negative number in a radix `Formatted(number, &FORMAT)` |
+/// | `i32` is not an unsigned integer type, or `to_str` exists for `Hex<i32>`, but its trait bounds were not satisfied | an unsigned number, such as `Hex(255u8)`; for a signed one `Formatted(number, &FORMAT)` in a radix, and `ZeroPadded(number, 2)` in place of `Padded` |
 /// | `(f64, u8)` is not a part, or `to_str` exists for `(u128, &str)`, but its trait bounds were not satisfied | `Displayed(&value)` for the member that is not a part |
 /// | `u128` is not an unsigned integer type, or `to_str` exists for `Hex<u128>`, but its trait bounds were not satisfied | `Displayed(&number)`, or in hexadecimal `Displayed(&format_args!("{number:X}"))` |
 /// | `T` is not a part, for a type parameter with `T: ToLexical`, or `to_str` exists for `(T, &'static str)`, but its trait bounds were not satisfied | `Decimal(value)` |
+/// | `T` is not a part, for a type parameter with `T: Display` | `Displayed(&value)` |
 /// | a tuple of parts with more than 12 members is not a part | tuples in a tuple |
+/// | `(u8,)` is not a part | the part itself |
+/// | the trait bound `Order: Copy` is not satisfied, in `impl Part for Order` | `impl Part for &Order` |
 /// | `(String, u8)` is not a part, or `to_str` exists for `(&str, &String)`, but its trait bounds were not satisfied | `string.as_str()`, or, with the feature `alloc`, `&string`; for an `Rc<str>` `&*text` |
 /// | `to_str` exists for `Joined<'_, String>`, but its trait bounds were not satisfied | a list of `&str`: `Joined(&strings.iter().map(String::as_str).collect::<Vec<_>>(), ",")` |
 /// | `(u8, Option<String>)` is not a part | `option.as_deref()` |

@@ -43,8 +43,10 @@ pub trait Show: Part {
 
     /// Writes the text to a writer, such as a `String`, in one piece or in several.
     ///
-    /// If you do not define this method, it writes the text in one piece, for which the room must be at most 256 bytes.
-    /// A part that can be longer calls this method of the parts that it consists of, one after another.
+    /// If you do not define this method, it writes the text in one piece by `to_str`, for which the room must be at most
+    /// 256 bytes. A part that can be longer calls this method of the parts that it consists of, one after another. So
+    /// does a part with a `Digits`, a `PaddedDigits` or a `Formatted`, because `write_pieces` of these needs little code
+    /// for a radix that is known only at run time, and their `to_str` needs [much](crate::costs).
     ///
     /// # Errors
     ///

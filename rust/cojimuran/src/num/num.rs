@@ -13,10 +13,11 @@
 /// assert!(is_below_zero(-5i8) && !is_below_zero(5u8));
 /// ```
 pub trait LexicalInteger: Copy + crate::sealed::Sealed {
-    /// The number of bits of the type.
+    /// The number of bits of the type. For `usize` and `isize` it is 64 on every target.
     const BITS: usize;
 
-    /// The largest number of decimal digits of a number of the type.
+    /// The largest number of decimal digits of a number of the type. For `usize` and `isize` it is that of 64 bits on
+    /// every target.
     const DECIMAL_WIDTH: usize;
 
     /// Whether the type has numbers below 0.
