@@ -64,6 +64,14 @@ fn rooms_of_tuples() {
     }
 }
 
+/// On targets with pointers of 32 bits too.
+#[test]
+fn rooms_of_a_usize() {
+    assert_eq!((7usize.room(), 7isize.room(), Decimal(7usize).room()), (20, 20, 20));
+    assert_eq!((Hex(7usize).room(), FullHex(7usize).room(), Binary(7usize).room()), (16, 16, 64));
+    assert_eq!(FullHex(7usize).to_str(&mut [0; 16]), "0000000000000007");
+}
+
 #[test]
 fn rooms_near_the_largest_usize() {
     let grouped = NumberFormatBuilder::new().digit_grouping(1, b',').build_strict();
