@@ -117,8 +117,7 @@ fn write_by_table_out_of_line<T: UnsignedInteger, const R: u32>(
     ensures digits { WritesDigits R (T.magnitude value) buffer.old buffer.new result }
     ensures notes { turns.new ≡ turns.old ++ table_notes R (T.magnitude value) }
 {
-    let table = get_table(R);
-    write_digits::<T, R>(value, table, buffer, turns)
+    write_by_table::<T, R>(value, buffer, turns)
 }
 
 // Writes a number as `write_by_table` does. One or two digits, which are frequent, and each number of a type of 8 or 16
@@ -162,8 +161,8 @@ pub(crate) fn write_in_radix<T: UnsignedInteger>(
     by_radix!(radix, write_by_table or write_short_inline::<T>(value, buffer, turns))
 }
 
-// Writes the digits as `write_in_radix` does, but by a call. Only one or two digits in a radix that is no power of 2
-// are written in the caller. So a caller whose radix is constant has little code.
+// Writes the digits as `write_in_radix` does, but by a call. Only in a radix that is no power of 2, one or two digits and
+// the numbers of a type of 8 or 16 bits are written in the caller. So a caller whose radix is constant has little code.
 fn write_in_radix_out_of_line<T: UnsignedInteger>(
     value: T,
     radix: u32,

@@ -78,8 +78,7 @@ fn write_by_table_out_of_line<T: UnsignedInteger, const R: u32>(
     value: T,
     buffer: &mut [u8],
 ) -> usize {
-    let table = get_table(R);
-    write_digits::<T, R>(value, table, buffer)
+    write_by_table::<T, R>(value, buffer)
 }
 
 // Writes a number as `write_by_table` does. One or two digits, which are frequent, and each number of a type of 8 or 16
@@ -106,8 +105,8 @@ pub(crate) fn write_in_radix<T: UnsignedInteger>(value: T, radix: u32, buffer: &
     by_radix!(radix, write_by_table or write_short_inline::<T>(value, buffer))
 }
 
-// Writes the digits as `write_in_radix` does, but by a call. Only one or two digits in a radix that is no power of 2
-// are written in the caller. So a caller whose radix is constant has little code.
+// Writes the digits as `write_in_radix` does, but by a call. Only in a radix that is no power of 2, one or two digits and
+// the numbers of a type of 8 or 16 bits are written in the caller. So a caller whose radix is constant has little code.
 #[inline(always)]
 #[track_caller]
 fn write_in_radix_out_of_line<T: UnsignedInteger>(
