@@ -8,11 +8,6 @@ use Rattle.lexical_lines.specs.Sink.{taken_by}
 use Rattle.lexical_lines.proofs.Added.{added-is}
 use Rattle.lexical_lines.specs.Stream.{StreamWriting, KeepsWriter}
 
--- a sink that was empty contains what it has taken
-pub contents-known : (old new : Option (List ℕ)) (more items : List ℕ) → old ≡ Some [] → new ≡ Some items
-    → Appends old new more → items ≡ more
-contents-known old new more items none some appends = grind arith
-
 -- a write appends the bytes that it took
 pub appends-taken : {E : Type 0} (old new : Option (List ℕ)) (outcome : Result ℕ E) (bytes : List ℕ)
     → WriteAppends old new outcome bytes

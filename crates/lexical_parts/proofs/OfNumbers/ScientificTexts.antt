@@ -44,7 +44,7 @@ left_digits (suc most) number (suc count) units few whole shortest =
     cond-true _ _ _ equal ∙ left_digits most (number / 10) count units (omega arith) rest
     (λ none. absurd (omega (arith, (shortest none).1)))
 
--- a number below 2 ^ 64 has at most 19 zeros
+-- a number below 2 ^ 64 has at most 20 zeros at its end (19 in truth, which no proof needs)
 few_zeros : (number units zeros : ℕ) → number < 2 ^ 64 → number ≡ units * 10 ^ zeros
     → (units % 10 ≡ 0 → (units ≡ 0) × (zeros ≡ 0)) → zeros ≤ 20
 few_zeros number units zeros small whole shortest = elim (cases_lt 20 zeros) [
