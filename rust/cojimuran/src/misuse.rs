@@ -1,4 +1,4 @@
-//! What safe code cannot do, so that no text becomes a `&str` that is not UTF-8 (`Part::to_str`). Only the
+//! What safe code cannot do, most of it so that no text becomes a `&str` that is not UTF-8 (`Part::to_str`). Only the
 //! documentation tests have this module, and each example must not compile. rustdoc checks that it fails with the error
 //! that is named here if the variable `RUSTC_BOOTSTRAP` is 1.
 //!
@@ -19,6 +19,10 @@
 //!
 //! ```compile_fail,E0603
 //! use cojimuran::parts::sealed::Sealed;
+//! ```
+//!
+//! ```compile_fail,E0432
+//! use cojimuran::Sealed;
 //! ```
 //!
 //! Nor with a parameter of any type:
@@ -125,4 +129,17 @@
 //!
 //! ```compile_fail,E0603
 //! use cojimuran::sealed::Sealed;
+//! ```
+//!
+//! A later version may have a further error, so a `match` of the errors needs an arm for others:
+//!
+//! ```compile_fail,E0004
+//! use cojimuran::Error;
+//!
+//! fn name(error: Error) -> &'static str {
+//!     match error {
+//!         Error::InvalidMantissaRadix(_) | Error::InvalidExponentRadix(_) => "radix",
+//!         Error::InvalidGroupSize(_) | Error::InvalidGroupMark(_) => "groups",
+//!     }
+//! }
 //! ```
