@@ -71,6 +71,12 @@ fn only_what_the_text_needs_is_reserved() {
     assert_eq!((string.as_str(), bytes.as_slice()), ("1,10", b"1,10".as_slice()));
     // The least that the standard library reserves.
     assert_eq!((string.capacity(), bytes.capacity()), (8, 8));
+    // A room of 256 bytes is the largest that is not reserved.
+    let line = ("line ", Joined(&[7u64; 12], ","));
+    let mut bytes = Vec::new();
+    line.append_to(&mut bytes);
+    assert_eq!((line.room(), bytes.len()), (256, 28));
+    assert!(bytes.capacity() < 64);
 }
 
 #[test]

@@ -40,6 +40,7 @@ fn callers_are_named() {
     check(|buffer| Plus(7123u64).to_text(buffer).len());
     check(|buffer| ZeroPadded(7u8, 4).to_str(buffer).len());
     check(|buffer| Displayed(&7123u128).to_text(buffer).len());
+    check(|buffer| (&String::from("text")).to_text(buffer).len());
     // Parts that are not valid.
     check(|buffer| Digits(37, 7u8).to_str(buffer).len());
     check(|buffer| Padded(123u8, 2).to_text(buffer).len());
