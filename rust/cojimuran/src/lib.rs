@@ -186,6 +186,9 @@ mod misuse;
 /// | `T` is not a part, for a type parameter with `T: Display` | `Displayed(&value)` |
 /// | a tuple of parts with more than 12 members is not a part | tuples in a tuple |
 /// | `(u8,)` is not a part | the part itself |
+/// | `&[u8; 5]` is not a part | `Bytes(b"bytes")` |
+/// | `Mine` is not a part with `Show`, for a part of your own | an `impl Show for Mine` with `is_showable` |
+/// | cannot return value referencing local variable `buffer` | the array as a parameter of your function |
 /// | the trait bound `Order: Copy` is not satisfied, in `impl Part for Order` | `impl Part for &Order` |
 /// | `(String, u8)` is not a part, or `to_str` exists for `(&str, &String)`, but its trait bounds were not satisfied | `string.as_str()`, or, with the feature `alloc`, `&string`; for an `Rc<str>` `&*text` |
 /// | `to_str` exists for `Joined<'_, String>`, but its trait bounds were not satisfied | a list of `&str`: `Joined(&strings.iter().map(String::as_str).collect::<Vec<_>>(), ",")` |
