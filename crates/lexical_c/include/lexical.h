@@ -39,18 +39,20 @@
  * leading zeros, but lexical_pad can add them. If the format has groups, its mark is
  * written between groups of digits.
  *
- * Format. `format` points to a struct lexical_format, and must not be NULL. A call only
- * reads it. Invalid values of its fields are safe: lexical_check_format names the first
- * invalid field, and every other function that takes a format returns 0.
+ * Format. `format` points to a struct lexical_format, whose fields are initialized, and must
+ * not be NULL. A call only reads it. Invalid values of its fields are safe:
+ * lexical_check_format names the first invalid field, and every other function that takes
+ * a format returns 0.
  *
  * Buffer. `buffer` points to `size` bytes that the call may write, and may be NULL if the
- * size is 0. A size above PTRDIFF_MAX counts as 0, because no buffer is so large: it is
- * the result of a subtraction such as `size - 2` for a size of 1. The buffer must not
- * overlap the format, and during the call no other thread may use the buffer. It need not
- * be initialized, except for the text that you pass to lexical_pad. (Rust would not allow
- * that, but it is harmless unless one compiler sees the code of your program together with
- * that of the library.) The call writes nothing outside the buffer, and keeps no pointer to
- * it. Bytes after the text keep their values.
+ * size is 0. The buffer must not overlap the format, and during the call no other thread
+ * may use the buffer. It need not be initialized, except for the text that you pass to
+ * lexical_pad. The call writes nothing outside the buffer, and keeps no pointer to it.
+ * Bytes after the text keep their values.
+ *
+ * Size. Compute it as a size_t. A size above PTRDIFF_MAX counts as 0, because no buffer is
+ * so large: it is the result of a subtraction such as `size - 2` for a size of 1. An
+ * unsigned int that wrapped around is not above PTRDIFF_MAX on 64-bit targets.
  *
  * Size of the buffer. LEXICAL_BUFFER_SIZE bytes are enough for every number of every
  * type in every format. A terminating NUL needs one byte more.
@@ -207,7 +209,8 @@ size_t lexical_decimal_i64(int64_t value, char *buffer, size_t size) LEXICAL_NOE
  * In C89, and in C++ before C++20, write the fields in their order, { 10, 0, 3, ',' }, or
  * initialize a variable with LEXICAL_RADIX(10), and then set its fields. (In C, C++98 and
  * C++11, -Wextra warns of fields that are left out of such a list.) A local variable
- * without an initializer has indeterminate fields; from C++14 on only its radix is so.
+ * without an initializer has indeterminate fields; from C++14 on only its radix is
+ * indeterminate.
  *
  * From C++14 on, each field after the radix has the default value 0, so the default
  * constructor is not trivial. To clear a format write `format = {}`, because g++ warns of
@@ -262,7 +265,7 @@ struct lexical_format {
  *     const struct lexical_format hexadecimal = LEXICAL_RADIX(16);
  *
  * The radix may have any integer type of at most 64 bits except bool. Do not pass a double:
- * it is truncated without a warning. If the radix is not from 2 to 36, the radix of the
+ * it may be truncated without a warning. If the radix is not from 2 to 36, the radix of the
  * format is 0, which is invalid. An invalid radix that is an integer constant expression is
  * a compile error in C11 and later, and with gcc and clang also in older C and in C++11 and
  * later. The error names a negative array size, or a narrowing conversion of -1.
@@ -462,9 +465,9 @@ size_t lexical_pad(size_t count, size_t width, char *buffer, size_t size) LEXICA
  *     size    the size of the buffer in bytes, with a byte for the NUL
  *
  * Returns `count`. Returns 0 if `count` is 0, or if `size` is not greater than `count`, so
- * that the NUL does not fit. In both cases, if `size` is not 0, the buffer becomes an empty
- * string, and a text in it is lost. So a buffer of at least one byte is a string after every call,
- * and you may ignore the result where an empty string will do.
+ * that the NUL does not fit. In both cases, unless `size` counts as 0, the buffer becomes an
+ * empty string, and a text in it is lost. So a buffer of at least one byte is a string after
+ * every call, and you may ignore the result if an empty string is acceptable.
  */
 LEXICAL_HAS((nothrow)) LEXICAL_ACCESS((write_only, 2, 3))
 size_t lexical_terminate(size_t count, char *buffer, size_t size) LEXICAL_NOEXCEPT;
