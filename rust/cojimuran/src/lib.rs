@@ -175,7 +175,9 @@ mod misuse;
 
 /// A page, not a module: what to write if rustc refuses a call.
 ///
-/// The message may name another method than `to_str`, or say "is not a part with `Show`" in place of "is not a part".
+/// The message may name another method than `to_str`, or say "is not a part with `Show`" in place of "is not a part". For
+/// a method call on a tuple, rustc says only which type lacks the trait. If you pass the tuple to a function such as
+/// `fn put(line: impl Show, text: &mut String)`, it shows the member, and what to write.
 ///
 /// | rustc says | write |
 /// |---|---|
