@@ -60,9 +60,9 @@
 //! # What is proved
 //!
 //! The sources are written in Rattle, a dialect of Rust with contracts, and each of their functions is proved: if its
-//! [conditions] hold, a call does not panic, and writes exactly the bytes of its contract. The prover is not public. A
+//! [conditions] hold, a call does not panic, and writes exactly the bytes that its contract specifies. The prover is not public. A
 //! program makes this Rust code from the sources, and the Rust code is tested, not proved. That `{}` and `write_pieces`
-//! succeed is also only tested. [`Displayed`], what needs the feature `alloc`, and this page are written by hand.
+//! succeed is also only tested. [`Displayed`], everything behind the feature `alloc`, and this page are written by hand.
 //!
 //! # What allocates
 //!
@@ -103,8 +103,9 @@
 //!   [`GroupedFixed`], [`TrimmedFixed`], [`Padded`] and [`PaddedDigits`] take the width, the fill, the `+` and the `0`
 //!   of an integer. `#` and a precision have no effect on them.
 //! - A [`Displayed`] passes all options to its value.
-//! - [`Shown`], which is no part itself, and all other parts, such as [`Lower`] and [`ZeroPadded`], take the width, the
-//!   fill and the precision of a `&str`.
+//! - [`Shown`], which is no part itself, and all other parts of this crate, such as [`Lower`] and [`ZeroPadded`], take
+//!   the width, the fill and the precision of a `&str`. Integers, strings and references keep the options that they have
+//!   in the standard library.
 //!
 //! ```
 //! use cojimuran::{Hex, Lower, Shown};

@@ -5,6 +5,7 @@
 #[path = "../../cojimuran/examples/number_of_128_bits.rs"]
 mod number_of_128_bits;
 
+use cojimuran::write::WriteInteger;
 use cojimuran::{
     BUFFER_SIZE, Binary, Buffer, Center, Digits, Displayed, Fixed, Formatted, FormattedSize, Hex, Left, Lower,
     NumberFormat, NumberFormatBuilder, Options, Padded, Part, Plus, Right, Scientific, Show, Shown, ToLexical,
@@ -99,6 +100,7 @@ fn from_lexical_write_integer() {
     }
     assert_eq!(push(-1i8, &FORMAT), b"-1");
     assert_eq!(NumberFormatBuilder::new().radix(37).build().unwrap_err().to_string(), "invalid mantissa radix 37");
+    assert_eq!(number.write_mantissa(&FORMAT, &mut buffer), 2);
     assert_eq!(Lower(Digits(36, number)).to_str(&mut buffer), "rs");
     let number = i128::MIN;
     assert_eq!(Displayed(&number).to_str(&mut buffer), number.to_string());
