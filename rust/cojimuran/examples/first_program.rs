@@ -1,4 +1,4 @@
-use cojimuran::{Buffer, Digits, Hex, Part, Show};
+use cojimuran::{Buffer, Digits, Hex, Part, PushPart};
 
 fn main() {
     // A number in decimal.
@@ -8,7 +8,6 @@ fn main() {
     println!("{}", Digits(36, u64::MAX).to_str(&mut buffer));
     // A line at the end of a `String`.
     let mut text = String::new();
-    let line = ("id=", 7u8, " flags=0x", Hex(255u16));
-    line.write_pieces(&mut text).unwrap();
+    text.push_part(("id=", 7u8, " flags=0x", Hex(255u16)));
     println!("{text}");
 }

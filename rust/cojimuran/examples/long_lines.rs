@@ -1,11 +1,11 @@
 //! Writes lines of unknown length to a file or another `io::Write`, with a `String` that is kept from line to line.
 
-use cojimuran::{Joined, Show};
+use cojimuran::{Joined, PushPart, Show};
 use std::io;
 
 fn write_line(file: &mut impl io::Write, text: &mut String, line: impl Show) -> io::Result<()> {
     text.clear();
-    line.write_pieces(text).map_err(io::Error::other)?;
+    text.push_part(line);
     file.write_all(text.as_bytes())
 }
 

@@ -1,8 +1,8 @@
 //! The recipes of the README, each beside the text that it writes.
 
 use cojimuran::{
-    Append, Buffer, Digits, Displayed, Fixed, Formatted, GroupedFixed, Hex, HexBytes, InRadix,
-    Joined, Left, Lower, NumberFormat, NumberFormatBuilder, Padded, Part, Right, Show, Shown,
+    Buffer, Digits, Displayed, Fixed, Formatted, GroupedFixed, Hex, HexBytes, InRadix, Joined,
+    Left, Lower, NumberFormat, NumberFormatBuilder, Padded, Part, PushPart, Right, Show, Shown,
     ZeroPadded,
 };
 use std::fmt;
@@ -21,24 +21,23 @@ impl fmt::Display for Point {
 }
 
 fn main() {
-    // A row of CSV at the end of a `String`, or of any other `fmt::Write`.
+    // A row of CSV at the end of a `String`.
     let name = String::from("shoe");
     let sizes = Joined(&[38u8, 40], " ");
     let row = (7u32, ",", name.as_str(), ",", sizes, "\n");
     let mut csv = String::from("id,name,sizes\n");
-    row.write_pieces(&mut csv).unwrap();
+    csv.push_part(row);
     assert_eq!(csv, "id,name,sizes\n7,shoe,38 40\n");
-
-    // The same with the feature `alloc`, also for a `Vec<u8>`.
-    let mut bytes = Vec::new();
-    row.append_to(&mut bytes);
-    assert_eq!(bytes, b"7,shoe,38 40\n");
 
     // A row with a float, or with any other value that has `Display`.
     let mut rated = String::new();
-    let row = (7u32, ",", Displayed(&0.5), "\n");
-    row.write_pieces(&mut rated).unwrap();
+    rated.push_part((7u32, ",", Displayed(&0.5), "\n"));
     assert_eq!(rated, "7,0.5\n");
+
+    // A row in any other `fmt::Write`, with an error in place of a panic.
+    let mut other = String::new();
+    let result = row.write_pieces(&mut other);
+    assert_eq!((result, other.as_str()), (Ok(()), "7,shoe,38 40\n"));
 
     // One number, in decimal and in radix 36, as in a short link.
     let mut buffer = [0; 64];

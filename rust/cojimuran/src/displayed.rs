@@ -19,12 +19,11 @@ use core::fmt::{self, Display, Write};
 /// ```
 ///
 /// The value is formatted once to write it, and once more each time that a call asks for its [`room`](Part::room) or
-/// its length: `append_to` a `Vec` and `{}` with a width ask once, `to_str` only if the buffer is shorter than the other
-/// parts may need, `try_to_str` once or twice, and `write_pieces`, `{}` and `append_to` a `String` at least once for
-/// each column or `ZeroPadded` around the value. It must write the same text each time.
+/// its length: `push_part` to a `Vec` and `{}` with a width ask once, `to_str` only if the buffer is shorter than the
+/// other parts may need, `try_to_str` once or twice, and `write_pieces`, `{}` and `push_part` to a `String` at least once
+/// for each column or `ZeroPadded` around the value. It must write the same text each time.
 ///
-/// A `u128` has at most 39 bytes and an `i128` at most 40. Other texts can be long: `{}` of `1e300` has 301 bytes. So
-/// take [`room`](Part::room) bytes, `write_pieces`, or a format with a limit such as `{:.3e}`.
+/// A `u128` has at most 39 bytes and an `i128` at most 40. Other texts can be long: `{}` of `1e300` has 301 bytes. So take [`room`](Part::room) bytes, a `String`, or a format with a limit such as `{:.3e}`.
 ///
 /// This part is not proved: what it writes is what the `Display` of the value does. If that `Display` returns an error,
 /// `write_pieces` and `{}` return it, and the other calls panic.
@@ -99,7 +98,7 @@ impl<T: Display + ?Sized> Part for Displayed<'_, T> {
     }
 
     // So `to_str` formats the value only once: `write_to` panics if the text does not fit. Nothing else relies on this
-    // bound: `to_str` always checks that a text with a `Displayed` in it is UTF-8, and `append_to` asks first whether a
+    // bound: `to_str` always checks that a text with a `Displayed` in it is UTF-8, and `push_part` asks first whether a
     // part is known to be UTF-8.
     #[inline]
     fn room_bound(self, _sealed: Sealed) -> usize {

@@ -14,8 +14,8 @@
 //! | you want | call |
 //! |---|---|
 //! | one decimal number as a `&str` | [`Buffer::new().format(number)`](Buffer::format) |
-//! | a part, such as a tuple, in a `String` or any other `fmt::Write` | [`part.write_pieces(&mut text)?`](Show::write_pieces) |
-//! | a part at the end of a `String` or a `Vec`, with the feature `alloc` | `part.append_to(&mut text)` of the trait `Append` |
+//! | a part, such as a tuple, at the end of a `String` or a `Vec<u8>` | `text.push_part(part)` of the trait `PushPart` |
+//! | a part in any other `fmt::Write`, or with an error in place of a panic | [`part.write_pieces(&mut out)?`](Show::write_pieces) |
 //! | a part in an array, as a `&str` | [`part.to_str(&mut buffer)`](Part::to_str) |
 //! | a part in an array, as bytes | [`part.to_text(&mut buffer)`](Part::to_text) |
 //! | a part in an array that may be too short | [`part.try_to_str(&mut buffer)`](Part::try_to_str) |
@@ -25,10 +25,10 @@
 //! An array must have [`part.room()`](Part::room) bytes, otherwise `to_str`
 //! [panics](conditions#what-happens-otherwise). (`to_str` counts a [`Displayed`] as 0 bytes.) [A
 //! table](conditions#how-long-a-buffer-must-be) has the room of each part. Write a text of unknown length with
-//! `write_pieces`, which needs no array. [`BUFFER_SIZE`] bytes are enough for one number in any format.
+//! `push_part` or `write_pieces`, which need no array. [`BUFFER_SIZE`] bytes are enough for one number in any format.
 //!
-//! A `char`, a `bool`, an `Option` of a part and a reference to a part are also parts, and with the feature `alloc` a
-//! reference to a `String`. This crate has these parts:
+//! A `char`, a `bool`, an `Option` of a part, a reference to a part and a reference to a `String` are also parts. This
+//! crate has these parts:
 //!
 //! | part | what it writes |
 //! |---|---|
@@ -60,34 +60,41 @@
 //! # What is proved
 //!
 //! The sources are written in Rattle, a dialect of Rust with contracts, and each of their functions is proved: if its
-//! [conditions] hold, a call does not panic, and writes exactly the bytes that its contract specifies. The prover is not public. A
-//! program makes this Rust code from the sources, and the Rust code is tested, not proved. That `{}` and `write_pieces`
-//! succeed is also only tested. [`Displayed`], everything behind the feature `alloc`, and this page are written by hand.
+//! [conditions] hold, a call does not panic, and writes exactly the bytes that its contract specifies. The prover is not
+//! public. A program makes this Rust code from the sources, and the Rust code is tested, not proved. That `{}` and
+//! `write_pieces` succeed is also only tested. These are written by hand, and not in the sources: `push_part`, which
+//! calls methods that are, [`Displayed`], references to a `String`, and this page.
 //!
 //! # What allocates
 //!
-//! Without the feature `alloc` no code of this crate allocates. `append_to` grows its target. `write_pieces` allocates
-//! if its writer does, and a [`Displayed`] if its `Display` does.
+//! Only `push_part` allocates, which grows its `String` or `Vec`. `write_pieces` allocates if its writer does, and a
+//! [`Displayed`] if its `Display` does.
+//!
+//! # Without `alloc`
+//!
+//! With `default-features = false` the crate does not use the crate `alloc` of the standard library. Then there is no
+//! `push_part`, and a reference to a `String` is no part.
 //!
 //! # A `String`, a `Vec`, a format string
 //!
 //! ```
-//! use cojimuran::{Buffer, Digits, Hex, Padded, Part, Show, Shown};
+//! use cojimuran::{Buffer, Digits, Hex, Padded, Part, PushPart, Show, Shown};
 //!
-//! // The end of a `String`, or of any other `fmt::Write`. With the feature `alloc`, `append_to` does this too.
+//! // The end of a `String` or a `Vec<u8>`.
 //! let mut path = String::from("/l/");
-//! (7u64, "/", Digits(36, 1000u64)).write_pieces(&mut path).unwrap();
+//! path.push_part((7u64, "/", Digits(36, 1000u64)));
 //! assert_eq!(path, "/l/7/RS");
-//!
-//! // The same with a buffer. Radix 36 has at most 13 digits for a `u64`.
-//! path.push_str(("/", Digits(36, 1000u64)).to_str(&mut [0; 14]));
-//! path.push_str(Buffer::new().format(7u64));
-//! assert_eq!(path, "/l/7/RS/RS7");
-//!
-//! // The end of a `Vec<u8>`.
 //! let mut bytes = b"time ".to_vec();
-//! bytes.extend_from_slice((Padded(7u8, 2), ":", Padded(5u8, 2)).to_text(&mut [0; 5]));
+//! bytes.push_part((Padded(7u8, 2), ":", Padded(5u8, 2)));
 //! assert_eq!(bytes, b"time 07:05");
+//!
+//! // The end of any `fmt::Write`, here of a `String`.
+//! ("/", 8u64).write_pieces(&mut path).unwrap();
+//! assert_eq!(path, "/l/7/RS/8");
+//!
+//! // An array. Radix 36 has at most 13 digits for a `u64`.
+//! assert_eq!(("/", Digits(36, 1000u64)).to_str(&mut [0; 14]), "/RS");
+//! assert_eq!(Buffer::new().format(7u64), "7");
 //!
 //! // A format string. `Shown` prints a tuple.
 //! assert_eq!(format!("{:>6}", Hex(255u16)), "    FF");
@@ -149,9 +156,9 @@ compile_error!("this package needs pointers of 64 or 32 bits");
 #[cfg(feature = "alloc")]
 extern crate alloc;
 
-#[cfg(feature = "alloc")]
-mod append;
 mod displayed;
+#[cfg(feature = "alloc")]
+mod push_part;
 #[cfg(feature = "alloc")]
 mod strings;
 
@@ -176,9 +183,8 @@ mod misuse;
 
 /// A page, not a module: what to write if rustc refuses a call.
 ///
-/// The message may name another method than `to_str`, or say "is not a part with `Show`" in place of "is not a part". For
-/// a method call on a tuple, rustc says only which type lacks the trait. If you pass the tuple to a function such as
-/// `fn put(line: impl Show, text: &mut String)`, it shows the member, and what to write.
+/// The message may name another method than `to_str`, or say "is not a part with `Show`" in place of "is not a part". For a method of a tuple, such as `to_str`, rustc says only which type lacks the trait. For an argument, as in
+/// `text.push_part((7u8, string))`, it shows the member, and what to write.
 ///
 /// | rustc says | write |
 /// |---|---|
@@ -193,7 +199,7 @@ mod misuse;
 /// | `Mine` is not a part with `Show`, for a part of your own | an `impl Show for Mine` with `is_showable` |
 /// | cannot return value referencing local variable `buffer` | the array as a parameter of your function |
 /// | the trait bound `Order: Copy` is not satisfied, in `impl Part for Order` | `impl Part for &Order` |
-/// | `(String, u8)` is not a part, or `to_str` exists for `(&str, &String)`, but its trait bounds were not satisfied | `string.as_str()`, or, with the feature `alloc`, `&string`; for an `Rc<str>` `&*text` |
+/// | `(String, u8)` is not a part, or `to_str` exists for `(&str, &String)`, but its trait bounds were not satisfied | `string.as_str()`, or `&string`; for an `Rc<str>` `&*text` |
 /// | `to_str` exists for `Joined<'_, String>`, but its trait bounds were not satisfied | a list of `&str`: `Joined(&strings.iter().map(String::as_str).collect::<Vec<_>>(), ",")` |
 /// | `(u8, Option<String>)` is not a part | `option.as_deref()` |
 /// | `to_str` exists for `(&str, Shown<u8>)`, but its trait bounds were not satisfied | the part without `Shown` |
@@ -203,10 +209,11 @@ mod misuse;
 /// | evaluation panicked: the radix is not from 2 to 36 | a radix from 2 to 36 in `InRadix::<36, _>(number)` |
 /// | `NonZero<u64>` is not a part | `number.get()` |
 /// | no method named `write_pieces` | `use cojimuran::Show` |
-/// | `Stdout: std::fmt::Write` is not satisfied, or `File` or `Vec<u8>` in its place | `out.write_all(line.to_text(&mut buffer))`, or `write!(out, "{}", Shown(line))`; for a `Vec` also `line.append_to(&mut vec)` |
+/// | `Stdout: std::fmt::Write` is not satisfied, or `File` or `Vec<u8>` in its place | `out.write_all(line.to_text(&mut buffer))`, or `write!(out, "{}", Shown(line))`; for a `Vec` `vec.push_part(line)` |
 /// | `?` couldn't convert the error to `std::io::Error` | `line.write_pieces(&mut text).map_err(std::io::Error::other)?` |
 /// | cannot call non-const method `<u64 as Part>::room` in constants | the sum of the rooms of the parts, from [a table](conditions#how-long-a-buffer-must-be) |
-/// | no method named `append_to`, or unresolved import `cojimuran::Append` | `use cojimuran::Append`, and the feature `alloc` |
+/// | no method named `push_part`, or unresolved import `cojimuran::PushPart` | `use cojimuran::PushPart`, without `default-features = false` |
+/// | no global memory allocator found, on a target without `std` | `default-features = false` for this crate in your `Cargo.toml`, or an allocator |
 /// | `(&str, u8)` doesn't implement `Display` | `Shown((..))` |
 #[cfg(doc)]
 pub mod compile_errors {}
@@ -229,8 +236,6 @@ pub mod costs {}
 #[doc = include_str!("../FROM_OTHER_CRATES.md")]
 pub mod from_other_crates {}
 
-#[cfg(feature = "alloc")]
-pub use append::{Append, AppendTarget};
 pub use displayed::Displayed;
 pub use num::options::{Options, OptionsBuilder, WriteOptions};
 pub use num::{
@@ -243,6 +248,8 @@ pub use parts::{
     Hex, HexBytes, InRadix, Joined, Left, Lower, OrElse, Padded, PaddedDigits, Part, Plus, Right,
     Scientific, Show, Shown, Sign, TrimmedFixed, ZeroPadded, write_field, write_with_length,
 };
+#[cfg(feature = "alloc")]
+pub use push_part::PushPart;
 pub use write_integer::{ToLexical, ToLexicalWithOptions, group_digits, sign_len, write_sign};
 
 #[doc(hidden)]

@@ -1,7 +1,9 @@
 //! Writes numbers of 1 to 64 bits in one way: `instructions CELL COUNT`. `tests/packages` counts what a number takes,
 //! and has a limit for each cell.
 
-use cojimuran::{Append, Buffer, Digits, Formatted, Hex, NumberFormat, NumberFormatBuilder, Padded, Part, Right, Show};
+use cojimuran::{
+    Buffer, Digits, Formatted, Hex, NumberFormat, NumberFormatBuilder, Padded, Part, PushPart, Right, Show,
+};
 use repository_tests::random::Random;
 use std::hint::black_box;
 
@@ -32,7 +34,7 @@ fn main() {
         "padded" => each(&numbers, |number, buffer, _| _ = black_box(Padded(number % 1_000_000, 6).to_str(buffer))),
         "column" => each(&numbers, |number, buffer, _| _ = black_box(Right(number, 24, b' ').to_str(buffer))),
         "line" => each(&numbers, |number, buffer, _| _ = black_box(line(number).to_str(buffer))),
-        "line_by_append_to" => each(&numbers, |number, _, text| line(number).append_to(text)),
+        "line_by_push_part" => each(&numbers, |number, _, text| text.push_part(line(number))),
         "line_by_write_pieces" => each(&numbers, |number, _, text| line(number).write_pieces(text).unwrap()),
         "nothing" => each(&numbers, |_, _, _| ()),
         cell => panic!("no cell {cell}"),

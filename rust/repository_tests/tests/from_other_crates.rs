@@ -8,7 +8,7 @@ mod number_of_128_bits;
 use cojimuran::write::WriteInteger;
 use cojimuran::{
     BUFFER_SIZE, Binary, Buffer, Center, Digits, Displayed, Fixed, Formatted, FormattedSize, Hex, Left, Lower,
-    NumberFormat, NumberFormatBuilder, Options, Padded, Part, Plus, Right, Scientific, Show, Shown, ToLexical,
+    NumberFormat, NumberFormatBuilder, Options, Padded, Part, Plus, PushPart, Right, Scientific, Shown, ToLexical,
     ToLexicalWithOptions, ZeroPadded,
 };
 use number_of_128_bits::{format_i128, format_u128};
@@ -24,17 +24,17 @@ fn from_format_and_write() -> std::io::Result<()> {
     assert_eq!(kept, "7");
 
     let mut text = String::new();
-    (a, ",", b).write_pieces(&mut text).unwrap();
+    text.push_part((a, ",", b));
     assert_eq!(text, format!("{a},{b}"));
     assert_eq!(Shown((a, ",", b)).to_string(), format!("{a},{b}"));
     text.clear();
-    (a, ",", b, "\n").write_pieces(&mut text).unwrap();
+    text.push_part((a, ",", b, "\n"));
     assert_eq!(text, format!("{a},{b}\n"));
     file.write_all((a, ",", b, "\n").to_text(&mut buffer))?;
     write!(file, "{}", Shown((a, ",", b, "\n")))?;
     assert_eq!(file, b"-1,2\n-1,2\n");
     text.clear();
-    (Displayed(&format_args!("{float:.2}")), ",", b, "\n").write_pieces(&mut text).unwrap();
+    text.push_part((Displayed(&format_args!("{float:.2}")), ",", b, "\n"));
     assert_eq!(text, format!("{float:.2},{b}\n"));
 
     assert_eq!(ZeroPadded(number, 6).to_str(&mut buffer), format!("{number:06}"));
@@ -68,8 +68,8 @@ fn from_itoa() {
     let (mut output, mut text, mut buffer) = (Vec::new(), String::new(), [0; 64]);
     assert_eq!(Buffer::new().format(number), "7");
     output.extend_from_slice(Buffer::new().format(number).as_bytes());
-    output.extend_from_slice(number.to_lexical(&mut buffer));
-    text.push_str((a, ",", b).to_str(&mut buffer));
+    output.push_part(number);
+    text.push_part((a, ",", b));
     assert_eq!((output, text), (b"77".to_vec(), "-1,2".to_owned()));
     fn text_of(value: impl ToLexical) -> String {
         Buffer::new().format(value).to_owned()

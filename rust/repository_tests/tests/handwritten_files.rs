@@ -1,7 +1,7 @@
 //! What the package has by hand: the ends of a `Vec` and of a `String`, values with `Display`, and owned strings.
 
 use cojimuran::{
-    Append, Bytes, Center, Digits, Displayed, Joined, Left, Lower, Padded, Part, Right, Show, Shown, ZeroPadded,
+    Bytes, Center, Digits, Displayed, Joined, Left, Lower, Padded, Part, PushPart, Right, Show, Shown, ZeroPadded,
 };
 use std::borrow::Cow;
 use std::cell::Cell;
@@ -21,12 +21,12 @@ fn ends_of_strings_and_vectors() {
         let numbers = vec![number; count];
         let expected = format!("é{}", vec![number.to_string(); count].join(","));
         let mut string = String::from("é");
-        Joined(&numbers, ",").append_to(&mut string);
+        string.push_part(Joined(&numbers, ","));
         assert_eq!(string, expected);
         for spare in [0, 1, 300, 3000] {
             let mut bytes = Vec::with_capacity(2 + spare);
             bytes.extend_from_slice("é".as_bytes());
-            Joined(&numbers, ",").append_to(&mut bytes);
+            bytes.push_part(Joined(&numbers, ","));
             assert_eq!(bytes, expected.as_bytes());
         }
     }
@@ -34,15 +34,15 @@ fn ends_of_strings_and_vectors() {
     let digits = [Digits(36, 7u64); 20];
     let expected = ["7"; 20].join(",");
     let (mut string, mut bytes) = (String::new(), Vec::new());
-    Joined(&digits, ",").append_to(&mut string);
-    Joined(&digits, ",").append_to(&mut bytes);
+    string.push_part(Joined(&digits, ","));
+    bytes.push_part(Joined(&digits, ","));
     assert_eq!((string.as_str(), bytes.as_slice()), (expected.as_str(), expected.as_bytes()));
     assert!(bytes.capacity() < 279);
     // A `Displayed` does not tell how long it is.
     let long = Displayed(&f64::MAX);
     let (mut string, mut bytes) = (String::new(), Vec::with_capacity(1000));
-    long.append_to(&mut string);
-    long.append_to(&mut bytes);
+    string.push_part(long);
+    bytes.push_part(long);
     assert_eq!((string.as_str(), bytes.as_slice()), (&*f64::MAX.to_string(), f64::MAX.to_string().as_bytes()));
 }
 
@@ -51,9 +51,9 @@ fn ends_of_strings_and_vectors() {
 #[cfg(target_arch = "x86_64")]
 #[test]
 fn a_vector_without_memory_aborts() {
-    const NAME: &str = "APPEND_WITHOUT_MEMORY";
+    const NAME: &str = "PUSH_WITHOUT_MEMORY";
     if std::env::var_os(NAME).is_some() {
-        Left("", 1 << 62, b' ').append_to(&mut Vec::new());
+        Vec::new().push_part(Left("", 1 << 62, b' '));
     } else {
         let mut child = Command::new(std::env::current_exe().unwrap());
         let ran = child.args(["--exact", "a_vector_without_memory_aborts"]).env(NAME, "1").output().unwrap();
@@ -66,15 +66,15 @@ fn a_vector_without_memory_aborts() {
 fn only_what_the_text_needs_is_reserved() {
     let row = (1u64, ",", Digits(2, 2u64));
     let (mut string, mut bytes) = (String::new(), Vec::new());
-    row.append_to(&mut string);
-    row.append_to(&mut bytes);
+    string.push_part(row);
+    bytes.push_part(row);
     assert_eq!((string.as_str(), bytes.as_slice()), ("1,10", b"1,10".as_slice()));
     // The least that the standard library reserves.
     assert_eq!((string.capacity(), bytes.capacity()), (8, 8));
     // A room of 256 bytes is the largest that is not reserved.
     let line = ("line ", Joined(&[7u64; 12], ","));
     let mut bytes = Vec::new();
-    line.append_to(&mut bytes);
+    bytes.push_part(line);
     assert_eq!((line.room(), bytes.len()), (256, 28));
     assert!(bytes.capacity() < 64);
 }
@@ -82,9 +82,9 @@ fn only_what_the_text_needs_is_reserved() {
 #[test]
 fn strings_stay_as_they_are_if_a_part_is_refused() {
     let mut string = String::from("ab");
-    assert!(catch_unwind(AssertUnwindSafe(|| Bytes(&[200]).append_to(&mut string))).is_err());
-    assert!(catch_unwind(AssertUnwindSafe(|| (1u8, Padded(123u8, 2)).append_to(&mut string))).is_err());
-    assert!(catch_unwind(AssertUnwindSafe(|| ("cd", 5u8, Bytes(&[200; 300])).append_to(&mut string))).is_err());
+    assert!(catch_unwind(AssertUnwindSafe(|| string.push_part(Bytes(&[200])))).is_err());
+    assert!(catch_unwind(AssertUnwindSafe(|| string.push_part((1u8, Padded(123u8, 2))))).is_err());
+    assert!(catch_unwind(AssertUnwindSafe(|| string.push_part(("cd", 5u8, Bytes(&[200; 300]))))).is_err());
     assert_eq!(string, "ab");
 }
 
@@ -131,8 +131,8 @@ fn how_often_a_value_is_formatted() {
     check(1, "to_text", &|| assert_eq!(line.to_text(&mut [0; 25]), b"atext7"));
     check(2, "try_to_str", &|| assert_eq!(line.try_to_str(&mut [0; 25]), Some("atext7")));
     check(1, "write_pieces", &|| line.write_pieces(&mut String::new()).unwrap());
-    check(1, "append_to a String", &|| line.append_to(&mut String::new()));
-    check(2, "append_to a Vec", &|| line.append_to(&mut Vec::new()));
+    check(1, "push_part to a String", &|| String::new().push_part(line));
+    check(2, "push_part to a Vec", &|| Vec::new().push_part(line));
 
     let column = Right(Displayed(&value), 6, b'.');
     check(1, "to_str of a column", &|| assert_eq!(column.to_str(&mut [0; 6]), "..text"));
@@ -140,7 +140,7 @@ fn how_often_a_value_is_formatted() {
     check(3, "write_pieces of a column in a column", &|| {
         Left(column, 8, b'.').write_pieces(&mut String::new()).unwrap();
     });
-    check(2, "append_to a Vec of a column", &|| column.append_to(&mut Vec::new()));
+    check(2, "push_part to a Vec of a column", &|| Vec::new().push_part(column));
     let list = [Displayed(&value)];
     check(1, "to_str of Joined", &|| assert_eq!(Joined(&list, "").to_str(&mut [0; 4]), "text"));
 }
@@ -187,7 +187,7 @@ fn check_error(part: impl Show) {
     assert!(write!(String::new(), "{}", Shown(part)).is_err());
     assert!(write!(String::new(), "{:9.2}", Shown(part)).is_err());
     assert!(catch_unwind(AssertUnwindSafe(|| part.to_str(&mut [0; 999]).len())).is_err());
-    assert!(catch_unwind(AssertUnwindSafe(|| part.append_to(&mut String::new()))).is_err());
+    assert!(catch_unwind(AssertUnwindSafe(|| String::new().push_part(part))).is_err());
 }
 
 #[test]

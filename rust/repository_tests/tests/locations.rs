@@ -49,8 +49,8 @@ fn callers_are_named() {
     check(|buffer| Byte(200).to_str(buffer).len());
     check(|buffer| Digits(37, 7u8).try_write_to(buffer).unwrap_or(0));
     check(|_| NumberFormatBuilder::new().radix(37).build_strict().mantissa_radix() as usize);
-    check(|_| no_length(|| ("id=", Digits(37, 7u8)).append_to(&mut String::new())));
-    check(|_| no_length(|| Fixed(7u8, 20).append_to(&mut Vec::new())));
+    check(|_| no_length(|| String::new().push_part(("id=", Digits(37, 7u8)))));
+    check(|_| no_length(|| Vec::new().push_part(Fixed(7u8, 20))));
 }
 
 /// Calls a function that returns nothing.

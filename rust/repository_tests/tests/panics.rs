@@ -11,7 +11,7 @@ use cojimuran::padded::write_padded;
 use cojimuran::radix::{Radix, digit_to_char};
 use cojimuran::write::WriteInteger;
 use cojimuran::{
-    Append, Byte, Bytes, Digits, Fixed, Hex, Joined, Left, NumberFormatBuilder, Padded, PaddedDigits, Part, Right,
+    Byte, Bytes, Digits, Fixed, Hex, Joined, Left, NumberFormatBuilder, Padded, PaddedDigits, Part, PushPart, Right,
     ToLexical, TrimmedFixed, UnsignedInteger, jeaiii, table, write_field, write_with_length,
 };
 use repository_tests::calls::{check_in_time, panic_message};
@@ -94,12 +94,12 @@ fn parts(tried: &mut Vec<Panicking>) {
             Padded(15u8, 1).try_to_str(buffer), Padded(1234567u32, 3).to_str(buffer),
             PaddedDigits(16, 256u32, 2).to_text(buffer), write_with_length(Padded(12u8, 1), 10, 1, 0, buffer),
             write_field(Padded(12u8, 1), 0, 1, buffer),
-            (1u8, Padded(10u8, 1)).append_to(&mut Vec::new());
+            Vec::new().push_part((1u8, Padded(10u8, 1)));
         "the text of the part is not UTF-8", "the text is not UTF-8": not_utf8.to_str(buffer),
             not_utf8.try_to_str(buffer);
-        "the text for a `String` is not UTF-8", "the text is not UTF-8": not_utf8.append_to(&mut String::new());
+        "the text for a `String` is not UTF-8", "the text is not UTF-8": String::new().push_part(not_utf8);
         "the vector would reserve more than `isize::MAX` bytes", "capacity overflow":
-            Left("", usize::MAX, b' ').append_to(&mut vec![1]);
+            vec![1].push_part(Left("", usize::MAX, b' '));
     }
 }
 

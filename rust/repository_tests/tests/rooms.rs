@@ -34,10 +34,10 @@ macro_rules! check_rooms {
             assert_eq!(buffer[count..], [b'?'; 130][count..], "what follows {name}");
         }
         let mut bytes = b"ab".to_vec();
-        $part.append_to(&mut bytes);
+        bytes.push_part($part);
         assert_eq!(bytes, [b"ab", $text.as_bytes()].concat(), "{name} at the end of a vector");
         let mut string = String::from("ab");
-        $part.append_to(&mut string);
+        string.push_part($part);
         assert_eq!(string, format!("ab{}", $text), "{name} at the end of a string");
     )+ };
 }

@@ -1,8 +1,8 @@
 //! What is written, and where to. Each loop is a function of its own for each case and each call, so none is shared.
 
 use cojimuran::{
-    Append, Digits, Hex, InRadix, Lower, NumberFormat, NumberFormatBuilder, Options, Padded, Part, Right, Show, Shown,
-    ToLexical, ToLexicalWithOptions, ZeroPadded,
+    Digits, Hex, InRadix, Lower, NumberFormat, NumberFormatBuilder, Options, Padded, Part, PushPart, Right, Show,
+    Shown, ToLexical, ToLexicalWithOptions, ZeroPadded,
 };
 use std::fmt::Write as _;
 use std::hint::black_box;
@@ -152,7 +152,7 @@ pub enum Target {
     Array,
     Slice,
     Vector,
-    Append,
+    Text,
     Pieces,
     Format,
 }
@@ -161,8 +161,8 @@ pub enum Target {
 pub const TARGETS: [(Target, &str); 6] = [
     (Target::Array, "an array"),
     (Target::Slice, "a slice"),
-    (Target::Vector, "`append_to` a `Vec`"),
-    (Target::Append, "`append_to` a `String`"),
+    (Target::Vector, "`push_part` to a `Vec`"),
+    (Target::Text, "`push_part` to a `String`"),
     (Target::Pieces, "`write_pieces` to it"),
     (Target::Format, "`{}` to it"),
 ];
@@ -176,8 +176,8 @@ pub fn write_all<C: Case>(target: Target, numbers: &[u64]) -> usize {
     match target {
         Target::Array => to_array(numbers, |number, buffer| C::write(number, buffer)),
         Target::Slice => to_slice(numbers, black_box(&mut [0; SIZE]), |number, buffer| C::write(number, buffer)),
-        Target::Vector => to_vector(numbers, |number, bytes| C::part(number).append_to(bytes)),
-        Target::Append => to_string(numbers, |number, text| C::part(number).append_to(text)),
+        Target::Vector => to_vector(numbers, |number, bytes| bytes.push_part(C::part(number))),
+        Target::Text => to_string(numbers, |number, text| text.push_part(C::part(number))),
         Target::Pieces => to_string(numbers, |number, text| _ = C::part(number).write_pieces(text)),
         Target::Format => to_string(numbers, |number, text| _ = write!(text, "{}", Shown(C::part(number)))),
     }
@@ -193,7 +193,7 @@ pub fn write_all_by_std<C: Case>(target: Target, numbers: &[u64]) -> usize {
         Target::Array => to_array(numbers, write),
         Target::Slice => to_slice(numbers, black_box(&mut [0; SIZE]), write),
         Target::Vector => to_vector(numbers, |number, bytes| _ = C::write_by_std(number, bytes)),
-        Target::Append | Target::Pieces | Target::Format => {
+        Target::Text | Target::Pieces | Target::Format => {
             to_string(numbers, |number, text| _ = C::append_by_std(number, text))
         }
     }

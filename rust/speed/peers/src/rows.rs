@@ -1,8 +1,8 @@
 //! What is written: the rows of the table, each with the loops of this package and of others.
 
 use crate::loops::Loop;
-use cojimuran::{Append, Buffer, NumberFormat, NumberFormatBuilder, Options, ToLexical, ToLexicalWithOptions};
-use cojimuran::{Decimal, Digits, Displayed, Formatted, Hex, Joined, Lower, Part, Show, Shown};
+use cojimuran::{Buffer, NumberFormat, NumberFormatBuilder, Options, ToLexical, ToLexicalWithOptions};
+use cojimuran::{Decimal, Digits, Displayed, Formatted, Hex, Joined, Lower, Part, PushPart, Show, Shown};
 use lexical_write_integer as lexical;
 use std::fmt::Write as _;
 use std::hint::black_box;
@@ -181,7 +181,7 @@ fn rows_of_lines() -> Vec<Row> {
         (WRITE, loop_to_string!(4, |n, text| writeln!(text, "{},{},{},{}", n[0], n[1], n[2], n[3]).unwrap())),
     ];
     let str_csv = loop_to_string!(4, |numbers, text| text.push_str(csv(numbers).to_str(&mut [0; 84])));
-    let append_csv = loop_to_string!(4, |numbers, text| csv(numbers).append_to(&mut text));
+    let pushed_csv = loop_to_string!(4, |numbers, text| text.push_part(csv(numbers)));
     let pieces_csv = loop_to_string!(4, |numbers, text| csv(numbers).write_pieces(&mut text).unwrap());
     let buffer_csv = loop_to_string!(4, |numbers, text| join_by_buffer(numbers, &mut text));
     vec![
@@ -191,7 +191,7 @@ fn rows_of_lines() -> Vec<Row> {
         row("a `u64` to the end of a `Vec`", vec, &vec_by_others),
         row("each of 8 `u64` with commas, to the end of a `String`", joined, &joined_by_others),
         row("each of 4 `u64` in a row of CSV, to a `String`, by `to_str` and `push_str`", str_csv, &csv_by_others),
-        row("the same by `append_to`", append_csv, &[]),
+        row("the same by `push_part`", pushed_csv, &[]),
         row("the same by `write_pieces`", pieces_csv, &[]),
         row("the same by `Buffer::format` and `push_str` in a loop", buffer_csv, &[]),
     ]

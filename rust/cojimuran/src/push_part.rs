@@ -1,42 +1,46 @@
-//! Parts at the end of a `Vec` or a `String`. This file is written by hand: it only finds the room for what is proved.
+//! Parts at the end of a `String` or a `Vec`. This file is written by hand: it only finds the room for what is proved.
 
 use crate::parts::Show;
 use crate::parts::sealed::Sealed;
 use alloc::string::String;
 use alloc::vec::Vec;
 
-/// Appends a part to a `Vec<u8>` or a `String`, with the feature `alloc`, which is off by default.
+/// Appends a part to a `String` or a `Vec<u8>`, with the feature `alloc`, which is on by default.
 ///
 /// ```
-/// use cojimuran::{Append, Fixed, Joined};
+/// use cojimuran::{Fixed, Joined, PushPart};
 ///
 /// let row = (7u32, ",", Fixed(1999u32, 2), ",", Joined(&[38u8, 40], " "), "\n");
 /// let mut csv = String::from("id,price,sizes\n");
-/// row.append_to(&mut csv);
+/// csv.push_part(row);
 /// assert_eq!(csv, "id,price,sizes\n7,19.99,38 40\n");
 ///
 /// let mut bytes = b"id,price,sizes\n".to_vec();
-/// row.append_to(&mut bytes);
+/// bytes.push_part(row);
 /// assert_eq!(bytes, csv.as_bytes());
 /// ```
 ///
-/// An iterator is written by a loop:
+/// An iterator is written by a loop, and a function of your own can write to either target:
 ///
 /// ```
-/// use cojimuran::Append;
+/// use cojimuran::PushPart;
+///
+/// fn push_squares(target: &mut impl PushPart) {
+///     for number in (1u64..).map(|number| number * number).take(3) {
+///         target.push_part((number, ";"));
+///     }
+/// }
 ///
 /// let mut squares = String::new();
-/// for number in (1u64..).map(|number| number * number).take(3) {
-///     (number, ";").append_to(&mut squares);
-/// }
+/// push_squares(&mut squares);
 /// assert_eq!(squares, "1;4;9;");
 /// ```
-pub trait Append: Show {
-    /// Appends the text to a `Vec<u8>` or a `String`. The part must be valid, and for a `String` its text must be
-    /// UTF-8, as [`to_str`](crate::Part::to_str) says.
+pub trait PushPart: sealed::Sealed {
+    /// Appends the text of a part. The part must be valid, and for a `String` its text must be UTF-8, as
+    /// [`to_str`](crate::Part::to_str) says.
     ///
     /// If the text could not exceed 256 bytes even with the longest numbers of its types, it is written in one piece, and
-    /// the target grows by its length. A longer one goes to a `String` in pieces, as by
+    /// the `String` or `Vec` grows by its length. A longer one goes to a `String` in pieces, as by
     /// [`write_pieces`](Show::write_pieces), and for a `Vec` its whole [`room`](crate::Part::room) may be reserved. A
     /// `String` also gets a text in pieces if a [`Displayed`](crate::Displayed), a reference to a `String` or a part of
     /// your own is in it.
@@ -47,35 +51,7 @@ pub trait Append: Show {
     /// `isize::MAX` bytes. A `String` is then unchanged, and a `Vec` may have some of the text and zeros at its end. If
     /// there is not enough memory, the process aborts, as it does for `Vec::push`.
     #[track_caller]
-    fn append_to<T: AppendTarget>(self, target: &mut T);
-}
-
-// With a constant radix in a caller, only what is inlined there has only the code of that radix. A debug build would
-// keep the array of each inlined call on the stack.
-impl<P: Show> Append for P {
-    #[cfg_attr(not(debug_assertions), inline(always))]
-    fn append_to<T: AppendTarget>(self, target: &mut T) {
-        target.append_part(self);
-    }
-}
-
-/// What [`Append`] can write to: `Vec<u8>` and `String`.
-///
-/// ```
-/// use cojimuran::{Append, AppendTarget};
-///
-/// fn append_id(id: u32, target: &mut impl AppendTarget) {
-///     ("id=", id).append_to(target);
-/// }
-///
-/// let mut line = String::new();
-/// append_id(7, &mut line);
-/// assert_eq!(line, "id=7");
-/// ```
-pub trait AppendTarget: sealed::Sealed {
-    #[doc(hidden)]
-    #[track_caller]
-    fn append_part<P: Show>(&mut self, part: P);
+    fn push_part<P: Show>(&mut self, part: P);
 }
 
 mod sealed {
@@ -101,9 +77,11 @@ fn enough_room<P: Show>(part: P) -> usize {
     part.room()
 }
 
-impl AppendTarget for Vec<u8> {
+// With a constant radix in a caller, only what is inlined there has only the code of that radix. A debug build would
+// keep the array of each inlined call on the stack.
+impl PushPart for Vec<u8> {
     #[cfg_attr(not(debug_assertions), inline(always))]
-    fn append_part<P: Show>(&mut self, part: P) {
+    fn push_part<P: Show>(&mut self, part: P) {
         let (start, room) = (self.len(), enough_room(part));
         if room <= MOST_AT_ONCE && self.capacity() - start < room {
             self.extend_from_slice(part.to_text(&mut [0; MOST_AT_ONCE]));
@@ -115,9 +93,9 @@ impl AppendTarget for Vec<u8> {
     }
 }
 
-impl AppendTarget for String {
+impl PushPart for String {
     #[cfg_attr(not(debug_assertions), inline(always))]
-    fn append_part<P: Show>(&mut self, part: P) {
+    fn push_part<P: Show>(&mut self, part: P) {
         // Other texts go out in pieces: each of these is a `&str` already, and a `Displayed` is formatted only once.
         if part.is_known_valid_and_utf8(Sealed) && part.room_bound(Sealed) <= MOST_AT_ONCE {
             self.push_str(part.to_str(&mut [0; MOST_AT_ONCE]));
