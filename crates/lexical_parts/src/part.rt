@@ -19,7 +19,7 @@ use std::str::{from_utf8, from_utf8_unchecked};
 /// text consists of the texts of its elements, in order: `(250, " g")` writes `250 g`.
 ///
 /// A longer tuple has tuples in it: `((a, b), (c, d))` writes what `(a, b, c, d)` writes. A tuple of one element,
-/// `(part,)`, is not a part. For a `String` write `string.as_str()`, or in a Cargo project `&string`. A
+/// `(part,)`, is not a part. For a `String` write `string.as_str()`, or, with the Cargo feature `alloc`, `&string`. A
 /// literal needs a type where the part takes unsigned numbers only: `Hex(255u8)` and `Digits(36, 1000u32)`,
 /// and not `Hex(255)`.
 ///
@@ -104,8 +104,7 @@ pub trait Part: Copy {
 
     /// Writes the text to the start of the buffer, and returns those bytes of the buffer, which the
     /// caller may read and change. Every byte after the text is unchanged. The part must be valid, and the buffer must
-    /// have `room` bytes or more. (A shorter buffer [may happen to be
-    /// enough](crate::conditions#what-happens-otherwise).)
+    /// have `room` bytes or more.
     ///
     /// # Panics
     ///

@@ -71,6 +71,21 @@ pub(crate) const RULES: &[(&str, &[(&str, &str)])] = &[
             ("if is_known_utf8 {", "if is_known_utf8 { debug_assert!(from_utf8(text).is_ok());"),
         ],
     ),
+    // In Rust `to_text` also checks the room, and so `to_str`, which calls it, need not.
+    (
+        "lexical_parts/part.rt",
+        &[
+            (
+                r#"prove!(has_room(self, buffer), "the buffer is shorter than the room of the part"); let text"#,
+                "let text",
+            ),
+            (
+                "let count = self.write_to(buffer); front_mut(buffer, count)",
+                r#"assert!(has_room(self, buffer), "the buffer is shorter than the room of the part");
+        let count = self.write_to(buffer); front_mut(buffer, count)"#,
+            ),
+        ],
+    ),
     // In Rattle a radix that is not from 2 to 36 is refused by a `requires`, and here when the call is compiled.
     (
         "lexical_parts/numbers/digits.rt",

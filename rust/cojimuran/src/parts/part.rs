@@ -10,7 +10,7 @@ use core::str::{from_utf8, from_utf8_unchecked};
 /// text consists of the texts of its elements, in order: `(250, " g")` writes `250 g`.
 ///
 /// A longer tuple has tuples in it: `((a, b), (c, d))` writes what `(a, b, c, d)` writes. A tuple of one element,
-/// `(part,)`, is not a part. For a `String` write `string.as_str()`, or in a Cargo project `&string`. A
+/// `(part,)`, is not a part. For a `String` write `string.as_str()`, or, with the Cargo feature `alloc`, `&string`. A
 /// literal needs a type where the part takes unsigned numbers only: `Hex(255u8)` and `Digits(36, 1000u32)`,
 /// and not `Hex(255)`.
 ///
@@ -81,8 +81,7 @@ pub trait Part: Copy {
 
     /// Writes the text to the start of the buffer, and returns those bytes of the buffer, which the
     /// caller may read and change. Every byte after the text is unchanged. The part must be valid, and the buffer must
-    /// have `room` bytes or more. (A shorter buffer [may happen to be
-    /// enough](crate::conditions#what-happens-otherwise).)
+    /// have `room` bytes or more.
     ///
     /// # Panics
     ///
@@ -90,6 +89,10 @@ pub trait Part: Copy {
     #[inline(always)]
     #[track_caller]
     fn to_text(self, buffer: &mut [u8]) -> &mut [u8] {
+        assert!(
+            has_room(self, buffer),
+            "the buffer is shorter than the room of the part"
+        );
         let count = self.write_to(buffer);
         front_mut(buffer, count)
     }
@@ -142,10 +145,6 @@ pub trait Part: Copy {
     #[allow(unsafe_code)]
     fn to_str(self, buffer: &mut [u8]) -> &str {
         let is_known_utf8 = self.is_known_valid_and_utf8(Sealed);
-        assert!(
-            has_room(self, buffer),
-            "the buffer is shorter than the room of the part"
-        );
         let text = self.to_text(buffer);
         if is_known_utf8 {
             debug_assert!(from_utf8(text).is_ok());
