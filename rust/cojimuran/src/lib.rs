@@ -22,8 +22,8 @@
 //! | a part in a format string | [`Shown(part)`](Shown) |
 //! | a part in a file, `stdout` or any other `io::Write` | `file.write_all(part.to_text(&mut buffer))?` or `write!(file, "{}", Shown(part))?` |
 //!
-//! An array must have [`part.room()`](Part::room) bytes, otherwise `to_str`
-//! [panics](conditions#what-happens-otherwise). (`to_str` counts a [`Displayed`] as 0 bytes.) [A
+//! An array must have [`part.room()`](Part::room) bytes, otherwise `to_str` and `to_text`
+//! [panic](conditions#what-happens-otherwise). (A [`Displayed`] counts as 0 bytes here.) [A
 //! table](conditions#how-long-a-buffer-must-be) has the room of each part. Write a text of unknown length with
 //! `push_part` or `write_pieces`, which need no array. [`BUFFER_SIZE`] bytes are enough for one number in any format.
 //!
@@ -62,8 +62,8 @@
 //! The sources are written in Rattle, a dialect of Rust with contracts, and each of their functions is proved: if its
 //! [conditions] hold, a call does not panic, and writes exactly the bytes that its contract specifies. The prover is not
 //! public. A program makes this Rust code from the sources, and the Rust code is tested, not proved. That `{}` and
-//! `write_pieces` succeed is also only tested. These are written by hand, and not in the sources: `push_part`, which
-//! calls methods that are, [`Displayed`], references to a `String`, and this page.
+//! `write_pieces` succeed is also only tested. Written by hand are `push_part` (which only reserves memory, and calls generated code), [`Displayed`], references to a
+//! `String`, and this page.
 //!
 //! # What allocates
 //!
@@ -73,7 +73,7 @@
 //! # Without `alloc`
 //!
 //! With `default-features = false` the crate does not use the crate `alloc` of the standard library. Then there is no
-//! `push_part`, and a reference to a `String` is no part.
+//! `push_part`, and a reference to a `String` is not a part.
 //!
 //! # A `String`, a `Vec`, a format string
 //!
@@ -183,39 +183,9 @@ mod misuse;
 
 /// A page, not a module: what to write if rustc refuses a call.
 ///
-/// The message may name another method than `to_str`, or say "is not a part with `Show`" in place of "is not a part". For a method of a tuple, such as `to_str`, rustc says only which type lacks the trait. For an argument, as in
-/// `text.push_part((7u8, string))`, it shows the member, and what to write.
-///
-/// | rustc says | write |
-/// |---|---|
-/// | `i32` is not an unsigned integer type, or `to_str` exists for `Hex<i32>`, but its trait bounds were not satisfied | an unsigned number, such as `Hex(255u8)`; for a signed one `Formatted(number, &FORMAT)` in a radix, and `ZeroPadded(number, 2)` in place of `Padded` |
-/// | `(f64, u8)` is not a part, or `to_str` exists for `(u128, &str)`, but its trait bounds were not satisfied | `Displayed(&value)` for the member that is not a part |
-/// | `u128` is not an unsigned integer type, or `to_str` exists for `Hex<u128>`, but its trait bounds were not satisfied | `Displayed(&number)`, or in hexadecimal `Displayed(&format_args!("{number:X}"))` |
-/// | `T` is not a part, for a type parameter with `T: ToLexical`, or `to_str` exists for `(T, &'static str)`, but its trait bounds were not satisfied | `Decimal(value)` |
-/// | `T` is not a part, for a type parameter with `T: Display` | `Displayed(&value)` |
-/// | a tuple of parts with more than 12 members is not a part | tuples in a tuple |
-/// | `(u8,)` is not a part | the part itself |
-/// | `&[u8; 5]` is not a part | `Bytes(b"bytes")` |
-/// | `Mine` is not a part with `Show`, for a part of your own | an `impl Show for Mine` with `is_showable` |
-/// | cannot return value referencing local variable `buffer` | the array as a parameter of your function |
-/// | the trait bound `Order: Copy` is not satisfied, in `impl Part for Order` | `impl Part for &Order` |
-/// | `(String, u8)` is not a part, or `to_str` exists for `(&str, &String)`, but its trait bounds were not satisfied | `string.as_str()`, or `&string`; for an `Rc<str>` `&*text` |
-/// | `to_str` exists for `Joined<'_, String>`, but its trait bounds were not satisfied | a list of `&str`: `Joined(&strings.iter().map(String::as_str).collect::<Vec<_>>(), ",")` |
-/// | `(u8, Option<String>)` is not a part | `option.as_deref()` |
-/// | `to_str` exists for `(&str, Shown<u8>)`, but its trait bounds were not satisfied | the part without `Shown` |
-/// | cannot borrow `buffer` as mutable more than once | a buffer for each text that you keep |
-/// | temporary value dropped while borrowed | the array in a variable of its own: `let mut buffer = [0; 64];` |
-/// | mismatched types, for `Joined(vector, ",")` or `Joined(iterator, ",")` | `Joined(&vector, ",")`; for an iterator a loop, or a vector of what it yields |
-/// | evaluation panicked: the radix is not from 2 to 36 | a radix from 2 to 36 in `InRadix::<36, _>(number)` |
-/// | `NonZero<u64>` is not a part | `number.get()` |
-/// | no method named `write_pieces` | `use cojimuran::Show` |
-/// | `Stdout: std::fmt::Write` is not satisfied, or `File` or `Vec<u8>` in its place | `out.write_all(line.to_text(&mut buffer))`, or `write!(out, "{}", Shown(line))`; for a `Vec` `vec.push_part(line)` |
-/// | `?` couldn't convert the error to `std::io::Error` | `line.write_pieces(&mut text).map_err(std::io::Error::other)?` |
-/// | cannot call non-const method `<u64 as Part>::room` in constants | the sum of the rooms of the parts, from [a table](conditions#how-long-a-buffer-must-be) |
-/// | no method named `push_part`, or unresolved import `cojimuran::PushPart` | `use cojimuran::PushPart`, without `default-features = false` |
-/// | no global memory allocator found, on a target without `std` | `default-features = false` for this crate in your `Cargo.toml`, or an allocator |
-/// | `(&str, u8)` doesn't implement `Display` | `Shown((..))` |
+/// [rooms]: crate::conditions#how-long-a-buffer-must-be
 #[cfg(doc)]
+#[doc = include_str!("../COMPILE_ERRORS.md")]
 pub mod compile_errors {}
 
 /// A page, not a module: how long a buffer must be, which parts are valid, and what happens otherwise.

@@ -46,10 +46,9 @@ pub trait PushPart: sealed::Sealed {
     /// your own is in it.
     ///
     /// # Panics
-    ///
     /// If the part is not valid, or if the text for a `String` is not UTF-8, or if the vector would reserve more than
-    /// `isize::MAX` bytes. A `String` is then unchanged, and a `Vec` may have some of the text and zeros at its end. If
-    /// there is not enough memory, the process aborts, as it does for `Vec::push`.
+    /// `isize::MAX` bytes, or if a `Display` or a part of your own returns an error. A `String` is then unchanged, and a `Vec` may have some of the text and zeros at its end. If there is not enough
+    /// memory, the process aborts, as it does for `Vec::push`.
     #[track_caller]
     fn push_part<P: Show>(&mut self, part: P);
 }
@@ -104,9 +103,11 @@ impl PushPart for String {
         let start = self.len();
         if part.write_pieces(self).is_err() {
             self.truncate(start);
-            panic!(
-                "the part is not valid, or the text is not UTF-8, or a `Display` or a part of another crate returned an error"
+            assert!(
+                part.is_showable(),
+                "the part is not valid, or the text is not UTF-8"
             );
+            panic!("a `Display` or a part of another crate returned an error");
         }
     }
 }

@@ -11,11 +11,12 @@ use cojimuran::padded::write_padded;
 use cojimuran::radix::{Radix, digit_to_char};
 use cojimuran::write::WriteInteger;
 use cojimuran::{
-    Byte, Bytes, Digits, Fixed, Hex, Joined, Left, NumberFormatBuilder, Padded, PaddedDigits, Part, PushPart, Right,
-    ToLexical, TrimmedFixed, UnsignedInteger, jeaiii, table, write_field, write_with_length,
+    Byte, Bytes, Digits, Displayed, Fixed, Hex, Joined, Left, NumberFormatBuilder, Padded, PaddedDigits, Part,
+    PushPart, Right, ToLexical, TrimmedFixed, UnsignedInteger, jeaiii, table, write_field, write_with_length,
 };
 use repository_tests::calls::{check_in_time, panic_message};
 use repository_tests::documented_panics::{Panicking, SHORT_BUFFER, check_each_has_a_call};
+use std::fmt;
 
 /// A part whose text is shorter than its room.
 #[derive(Clone, Copy)]
@@ -28,6 +29,15 @@ impl Part for Short {
 
     fn write_to(self, buffer: &mut [u8]) -> usize {
         'a'.write_to(buffer)
+    }
+}
+
+/// A value that cannot be formatted.
+struct Never;
+
+impl fmt::Display for Never {
+    fn fmt(&self, _: &mut fmt::Formatter<'_>) -> fmt::Result {
+        Err(fmt::Error)
     }
 }
 
@@ -97,7 +107,10 @@ fn parts(tried: &mut Vec<Panicking>) {
             Vec::new().push_part((1u8, Padded(10u8, 1)));
         "the text of the part is not UTF-8", "the text is not UTF-8": not_utf8.to_str(buffer),
             not_utf8.try_to_str(buffer);
+        "the part is not valid", "the part is not valid": String::new().push_part(Digits(37, 7u8));
         "the text for a `String` is not UTF-8", "the text is not UTF-8": String::new().push_part(not_utf8);
+        "a `Display` or a part of your own returns an error", "returned an error":
+            String::new().push_part(Displayed(&Never));
         "the vector would reserve more than `isize::MAX` bytes", "capacity overflow":
             vec![1].push_part(Left("", usize::MAX, b' '));
     }
@@ -112,6 +125,7 @@ fn buffers(tried: &mut Vec<Panicking>) {
         "the buffer is too short", "the buffer is shorter than the room of the part":
             7u64.to_str(&mut buffer[..19]), Hex(7u64).to_str(&mut buffer[..15]),
             ("id=", 7u64).to_str(&mut buffer[..22]), (true, 'a', "b").to_str(&mut buffer[..9]),
+            7u64.to_text(&mut buffer[..19]), Hex(7u64).to_text(&mut buffer[..15]),
             Fixed(7u64, 2).to_str(&mut buffer[..20]), Right(7u8, 2, b' ').to_str(&mut buffer[..2]),
             Joined(&list, ",").to_str(&mut buffer[..6]), Some(7i8).to_str(&mut buffer[..3]),
             // Such a text is checked to be UTF-8.

@@ -49,9 +49,11 @@ note = "a literal needs a type, such as `255u8`; a signed number in a radix is w
     leading zeros by `ZeroPadded`, and one of 128 bits by `Displayed`")]"#;
 pub(crate) const NO_PART: &str = r#"#[diagnostic::on_unimplemented(
 message = "`{Self}` is not a part",
-note = "pass a `String` as `string.as_str()`, and another value with `Display` as `Displayed(&value)`; a tuple has \
-    2 to 12 members")]"#;
+note = "pass a `String` as `string.as_str()`, a list as `Joined(&list, separator)`, and bytes as `Bytes(bytes)`",
+note = "pass another value with `Display` as `Displayed(&value)`, and one with `Debug` by `format_args!` in it",
+note = "a tuple has 2 to 12 members; a part of your own needs `impl Part`")]"#;
 pub(crate) const NO_SHOW: &str = r#"#[diagnostic::on_unimplemented(
 message = "`{Self}` is not a part with `Show`",
-note = "pass a `String` as `string.as_str()`, and another value with `Display` as `Displayed(&value)`; implement \
-    `Show` for a part of your own; a tuple has 2 to 12 members")]"#;
+note = "pass a `String` as `string.as_str()`, a list as `Joined(&list, separator)`, and bytes as `Bytes(bytes)`",
+note = "pass another value with `Display` as `Displayed(&value)`, and one with `Debug` by `format_args!` in it",
+note = "a tuple has 2 to 12 members; a part of your own needs `impl Part` and `impl Show`")]"#;

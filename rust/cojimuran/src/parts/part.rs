@@ -25,8 +25,9 @@ use core::str::{from_utf8, from_utf8_unchecked};
 /// ```
 #[diagnostic::on_unimplemented(
     message = "`{Self}` is not a part",
-    note = "pass a `String` as `string.as_str()`, and another value with `Display` as `Displayed(&value)`; a tuple has \
-    2 to 12 members"
+    note = "pass a `String` as `string.as_str()`, a list as `Joined(&list, separator)`, and bytes as `Bytes(bytes)`",
+    note = "pass another value with `Display` as `Displayed(&value)`, and one with `Debug` by `format_args!` in it",
+    note = "a tuple has 2 to 12 members; a part of your own needs `impl Part`"
 )]
 pub trait Part: Copy {
     /// Returns the room: a length of a buffer that is always enough for the text, or `usize::MAX` if that length does

@@ -27,8 +27,9 @@ pub(crate) const MOST_IN_ONE_PIECE: usize = 256;
 /// ```
 #[diagnostic::on_unimplemented(
     message = "`{Self}` is not a part with `Show`",
-    note = "pass a `String` as `string.as_str()`, and another value with `Display` as `Displayed(&value)`; implement \
-    `Show` for a part of your own; a tuple has 2 to 12 members"
+    note = "pass a `String` as `string.as_str()`, a list as `Joined(&list, separator)`, and bytes as `Bytes(bytes)`",
+    note = "pass another value with `Display` as `Displayed(&value)`, and one with `Debug` by `format_args!` in it",
+    note = "a tuple has 2 to 12 members; a part of your own needs `impl Part` and `impl Show`"
 )]
 pub trait Show: Part {
     /// Returns whether the part is valid and its text is UTF-8, as `to_str` requires. If it returns `false`, `{}` and
