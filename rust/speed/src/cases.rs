@@ -132,10 +132,10 @@ case! {
     "{:06}", short(n)
 }
 case! { Column, "a column", |n, b| Right(n, 24, b' ').write_to(b), Right(n, 24, b' '); "{n:>24}" }
-case! { Line, "`id=N flags=0xN`", |n, b| line(n).write_to(b), line(n); "id={n} flags=0x{:X}\n", n as u16 }
-case! { FourNumbers, "`N,N,N,N`", |n, b| row(n).write_to(b), row(n); "{n},{},{},{}\n", n ^ 1, n ^ 2, n ^ 3 }
+case! { Line, "line of numbers", |n, b| line(n).write_to(b), line(n); "id={n} flags=0x{:X}\n", n as u16 }
+case! { FourNumbers, "row of four numbers", |n, b| row(n).write_to(b), row(n); "{n},{},{},{}\n", n ^ 1, n ^ 2, n ^ 3 }
 case! {
-    Names, "`first=S second=S`", |n, b| names(n).write_to(b), names(n);
+    Names, "line of strings", |n, b| names(n).write_to(b), names(n);
     "first={} second={}\n", name(n), name(n / 4)
 }
 
