@@ -39,8 +39,8 @@
  * leading zeros, but lexical_pad can add them. If the format has groups, its mark is
  * written between groups of digits.
  *
- * Format. `format` points to a struct lexical_format, whose fields are initialized, and must
- * not be NULL. A call only reads it. Invalid values of its fields are safe:
+ * Format. `format` must point to a struct lexical_format whose fields are initialized, and
+ * so must not be NULL. A call only reads it. Invalid values of its fields are safe:
  * lexical_check_format names the first invalid field, and every other function that takes
  * a format returns 0.
  *
@@ -50,9 +50,10 @@
  * lexical_pad. The call writes nothing outside the buffer, and keeps no pointer to it.
  * Bytes after the text keep their values.
  *
- * Size. Compute it as a size_t. A size above PTRDIFF_MAX counts as 0, because no buffer is
- * so large: it is the result of a subtraction such as `size - 2` for a size of 1. An
- * unsigned int that wrapped around is not above PTRDIFF_MAX on 64-bit targets.
+ * Size. Compute it as a size_t. Then a subtraction that wraps around, such as `size - 2` for
+ * a size of 1, is no danger: a size above PTRDIFF_MAX counts as 0, because no buffer is so
+ * large. If an unsigned int wraps around on a 64-bit target, the result is not above
+ * PTRDIFF_MAX, and the call may write past the buffer.
  *
  * Size of the buffer. LEXICAL_BUFFER_SIZE bytes are enough for every number of every
  * type in every format. A terminating NUL needs one byte more.
@@ -150,9 +151,9 @@ LEXICAL_HAS((nothrow, const)) uint32_t lexical_version(void) LEXICAL_NOEXCEPT;
 /* ---- decimal numbers ----------------------------------------------------- */
 
 /*
- * A buffer size that is enough for every result of lexical_decimal_T, without a NUL. A NUL
- * needs one byte more. For a format with groups or a '+' use
- * LEXICAL_BUFFER_SIZE_U32 and so on, or at run time lexical_buffer_size_T.
+ * A buffer size that is enough for every result of lexical_decimal_T, not counting a NUL.
+ * For a format with groups or a '+' use LEXICAL_BUFFER_SIZE_U32 and so on, or at run time
+ * lexical_buffer_size_T.
  */
 #define LEXICAL_BUFFER_SIZE_DECIMAL_U8 3
 #define LEXICAL_BUFFER_SIZE_DECIMAL_U16 5
@@ -260,7 +261,7 @@ struct lexical_format {
 
 /*
  * LEXICAL_RADIX: an initializer for a format with this radix, in uppercase, with no '+' and
- * no groups. In C it is not an argument.
+ * no groups. In C you cannot pass it as an argument.
  *
  *     const struct lexical_format hexadecimal = LEXICAL_RADIX(16);
  *
@@ -268,7 +269,7 @@ struct lexical_format {
  * it may be truncated without a warning. If the radix is not from 2 to 36, the radix of the
  * format is 0, which is invalid. An invalid radix that is an integer constant expression is
  * a compile error in C11 and later, and with gcc and clang also in older C and in C++11 and
- * later. The error names a negative array size, or a narrowing conversion of -1.
+ * later. The message mentions a negative array size, or a narrowing conversion of -1.
  *
  * The radix is evaluated once, except in C before C11 with compilers other than gcc and
  * clang.
@@ -641,8 +642,8 @@ lexical_private_radix(uint64_t number)
  * Yields the first value if the number is an integer constant expression, and otherwise
  * the second. 0 times such an expression is a null pointer constant, so ?: has the type
  * int *. Otherwise it has the type void *. The result does not depend on what a compiler
- * optimizes. The number is not evaluated. It is 8 and not 0, because gcc may warn of
- * equal branches.
+ * optimizes, and the number is not evaluated. The other branch is (int *)8 and not
+ * (int *)0, because gcc may warn of equal branches.
  */
 #define LEXICAL_PRIVATE_IF_CONSTANT(number, value, other)                      \
     _Generic(1 ? (void *)((intptr_t)(number) * 0) : (int *)8, int *: (value), default: (other))

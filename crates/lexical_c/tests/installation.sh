@@ -67,6 +67,7 @@ check_installation() {
   for wrong in '/a b' '/a&b' '/a|b' '/a,b' "/a'b" '/a"b' a/b; do
     expect "the prefix $wrong" refuses 'without spaces' prefix="$wrong"
   done
+  expect 'an empty includedir' refuses 'not be empty' includedir=
   expect 'a libdir that is not below prefix' refuses 'below prefix' prefix=/usr libdir=/lib
   expect 'the library is replaced, not overwritten' replaces_library
   expect 'make uninstall' uninstalls

@@ -20,6 +20,12 @@ links_after_changes() {
   what_is_linked | grep so || stop 'it is linked with the first archive and flags'
 }
 
+# Whether make compiles again after RUSTFLAGS have changed: it refuses flags although an archive is there.
+compiles_after_changes() {
+  fails make_c RUSTFLAGS=-Clto=no || stop 'flags that do not work'
+  make_c || stop 'the first flags'
+}
+
 # Whether make takes TARGET from its own command line, and not from the environment.
 takes_target() {
   env TARGET=none make -n -C "$copy/crates/lexical_c" | grep -x '.*/archive --out build *' || stop 'the environment'
@@ -45,6 +51,7 @@ builds_with_llvm() {
 check_make() {
   expect 'the TARGET of make' takes_target
   expect 'what make links' links_after_changes
+  [ "$builder" = rt ] || expect 'what make compiles' compiles_after_changes
   expect 'the hardening of the shared library' is_hardened
   expect 'make check' prints 'the static and the shared library have passed' make_c check
   # A compiler for another machine looks for a linker of its own.

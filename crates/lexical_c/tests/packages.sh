@@ -25,8 +25,7 @@ unpacks_deb() {
   lintian --allow-root --fail-on error,warning --suppress-tags initial-upload-closes-no-bugs ../*.changes ||
     stop 'lintian'
   for file in ../liblexical-c1_*.deb ../liblexical-c-dev_*.deb; do dpkg-deb -x "$file" "$root" || stop "$file"; done
-  documents=$root/usr/share/doc/liblexical-c-dev
-  ls "$documents"/README.md* || stop 'the documentation'
+  ls "$root"/usr/share/doc/liblexical-c-dev/examples/first.c || stop 'the examples'
   mkdir ../autopkgtest || stop 'a folder for autopkgtest'
   AUTOPKGTEST_TMP=$PWD/../autopkgtest CMAKE_PREFIX_PATH="$root/usr" debian/tests/cmake || stop 'debian/tests/cmake'
 }
