@@ -3,7 +3,7 @@
 use cojimuran::{
     Buffer, Digits, Displayed, Fixed, Formatted, GroupedFixed, Hex, HexBytes, InRadix, Joined,
     Left, Lower, NumberFormat, NumberFormatBuilder, Padded, Part, PushPart, Right, Show, Shown,
-    ZeroPadded,
+    WritePart, ZeroPadded,
 };
 use std::fmt;
 
@@ -34,7 +34,12 @@ fn main() {
     rated.push_part((7u32, ",", Displayed(&0.5), "\n"));
     assert_eq!(rated, "7,0.5\n");
 
-    // A row in any other `fmt::Write`, with an error in place of a panic.
+    // A row in a file, or in any other `io::Write`. Here a `Vec` stands for it.
+    let mut file = Vec::new();
+    file.write_part(row).unwrap();
+    assert_eq!(file, b"7,shoe,38 40\n");
+
+    // A row in any `fmt::Write`, with an error in place of a panic.
     let mut other = String::new();
     let result = row.write_pieces(&mut other);
     assert_eq!((result, other.as_str()), (Ok(()), "7,shoe,38 40\n"));

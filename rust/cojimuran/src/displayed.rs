@@ -20,13 +20,14 @@ use core::fmt::{self, Display, Write};
 ///
 /// The value is formatted once to write it, and once more each time that a call asks for its [`room`](Part::room) or
 /// its length: `push_part` to a `Vec` and `{}` with a width ask once, `to_str` only if the buffer is shorter than the
-/// other parts may need, `try_to_str` once or twice, and `write_pieces`, `{}` and `push_part` to a `String` at least once
-/// for each column or `ZeroPadded` around the value. It must write the same text each time.
+/// other parts may need, `try_to_str` once or twice, and `write_part`, `write_pieces`, `{}` and `push_part` to a
+/// `String` at least once for each column or `ZeroPadded` around the value. It must write the same text each time.
 ///
-/// A `u128` has at most 39 bytes and an `i128` at most 40. Other texts can be long: `{}` of `1e300` has 301 bytes. So take [`room`](Part::room) bytes, a `String`, or a format with a limit such as `{:.3e}`.
+/// A `u128` has at most 39 bytes and an `i128` at most 40. Other texts can be long: `{}` of `1e300` has 301 bytes. So
+/// take [`room`](Part::room) bytes, a `String`, or a format with a limit such as `{:.3e}`.
 ///
 /// This part is not proved: what it writes is what the `Display` of the value does. If that `Display` returns an error,
-/// `write_pieces` and `{}` return it, and the other calls panic.
+/// `write_part`, `write_pieces` and `{}` return an error, and the other calls panic.
 #[derive(Debug)]
 pub struct Displayed<'a, T: ?Sized>(pub &'a T);
 

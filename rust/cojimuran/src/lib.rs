@@ -20,12 +20,13 @@
 //! | a part in an array, as bytes | [`part.to_text(&mut buffer)`](Part::to_text) |
 //! | a part in an array that may be too short | [`part.try_to_str(&mut buffer)`](Part::try_to_str) |
 //! | a part in a format string | [`Shown(part)`](Shown) |
-//! | a part in a file, `stdout` or any other `io::Write` | `file.write_all(part.to_text(&mut buffer))?` or `write!(file, "{}", Shown(part))?` |
+//! | a part in a file, `stdout` or any other `io::Write` | `file.write_part(part)?` of the trait `WritePart` |
 //!
 //! An array must have [`part.room()`](Part::room) bytes, otherwise `to_str` and `to_text`
 //! [panic](conditions#what-happens-otherwise). (A [`Displayed`] counts as 0 bytes here.) [A
 //! table](conditions#how-long-a-buffer-must-be) has the room of each part. Write a text of unknown length with
-//! `push_part` or `write_pieces`, which need no array. [`BUFFER_SIZE`] bytes are enough for one number in any format.
+//! `push_part`, `write_part` or `write_pieces`, which need no array. [`BUFFER_SIZE`] bytes are enough for one number in
+//! any format.
 //!
 //! A `char`, a `bool`, an `Option` of a part, a reference to a part and a reference to a `String` are also parts. This
 //! crate has these parts:
@@ -60,20 +61,20 @@
 //! # What is proved
 //!
 //! The sources are written in Rattle, a dialect of Rust with contracts, and each of their functions is proved: if its
-//! [conditions] hold, a call does not panic, and writes exactly the bytes that its contract specifies. The prover is not
-//! public. A program makes this Rust code from the sources, and the Rust code is tested, not proved. That `{}` and
-//! `write_pieces` succeed is also only tested. Written by hand are `push_part` (which only reserves memory, and calls generated code), [`Displayed`], references to a
-//! `String`, and this page.
+//! [conditions] hold, a call does not panic, and writes exactly the bytes that its contract specifies. The prover is
+//! not public. A program makes this Rust code from the sources, and the Rust code is tested, not proved. That `{}` and
+//! `write_pieces` succeed is also only tested. Written by hand are `push_part` and `write_part` (which pass on what
+//! generated code writes), [`Displayed`], references to a `String`, and this page.
 //!
 //! # What allocates
 //!
 //! Only `push_part` allocates, which grows its `String` or `Vec`. `write_pieces` allocates if its writer does, and a
 //! [`Displayed`] if its `Display` does.
 //!
-//! # Without `alloc`
+//! # Without `std`
 //!
-//! With `default-features = false` the crate does not use the crate `alloc` of the standard library. Then there is no
-//! `push_part`, and a reference to a `String` is not a part.
+//! The feature `std` has `write_part`, and the feature `alloc` has `push_part` and references to a `String`. With
+//! `default-features = false` the crate uses only `core`.
 //!
 //! # A `String`, a `Vec`, a format string
 //!
@@ -111,8 +112,8 @@
 //!   of an integer. `#` and a precision have no effect on them.
 //! - A [`Displayed`] passes all options to its value.
 //! - [`Shown`], which is no part itself, and all other parts of this crate, such as [`Lower`] and [`ZeroPadded`], take
-//!   the width, the fill and the precision of a `&str`. Integers, strings and references keep the options that they have
-//!   in the standard library.
+//!   the width, the fill and the precision of a `&str`. Integers, strings and references keep the options that they
+//!   have in the standard library.
 //!
 //! ```
 //! use cojimuran::{Hex, Lower, Shown};
@@ -155,12 +156,16 @@ compile_error!("this package needs pointers of 64 or 32 bits");
 
 #[cfg(feature = "alloc")]
 extern crate alloc;
+#[cfg(feature = "std")]
+extern crate std;
 
 mod displayed;
 #[cfg(feature = "alloc")]
 mod push_part;
 #[cfg(feature = "alloc")]
 mod strings;
+#[cfg(feature = "std")]
+mod write_part;
 
 // The sources in Rattle, as `strip` makes them: what users have of them is exported below.
 #[allow(
@@ -221,6 +226,8 @@ pub use parts::{
 #[cfg(feature = "alloc")]
 pub use push_part::PushPart;
 pub use write_integer::{ToLexical, ToLexicalWithOptions, group_digits, sign_len, write_sign};
+#[cfg(feature = "std")]
+pub use write_part::WritePart;
 
 #[doc(hidden)]
 pub mod algorithm {

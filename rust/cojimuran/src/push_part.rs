@@ -1,4 +1,5 @@
-//! Parts at the end of a `String` or a `Vec`. This file is written by hand: it only finds the room for what is proved.
+//! Parts at the end of a `String` or a `Vec`. This file is written by hand: it finds the room for what generated code
+//! writes, or takes that in pieces.
 
 use crate::parts::Show;
 use crate::parts::sealed::Sealed;
@@ -39,16 +40,18 @@ pub trait PushPart: sealed::Sealed {
     /// Appends the text of a part. The part must be valid, and for a `String` its text must be UTF-8, as
     /// [`to_str`](crate::Part::to_str) says.
     ///
-    /// If the text could not exceed 256 bytes even with the longest numbers of its types, it is written in one piece, and
-    /// the `String` or `Vec` grows by its length. A longer one goes to a `String` in pieces, as by
+    /// If the text could not exceed 256 bytes even with the longest numbers of its types, it is written in one piece,
+    /// and the `String` or `Vec` grows by its length. A longer one goes to a `String` in pieces, as by
     /// [`write_pieces`](Show::write_pieces), and for a `Vec` its whole [`room`](crate::Part::room) may be reserved. A
     /// `String` also gets a text in pieces if a [`Displayed`](crate::Displayed), a reference to a `String` or a part of
     /// your own is in it.
     ///
     /// # Panics
+    ///
     /// If the part is not valid, or if the text for a `String` is not UTF-8, or if the vector would reserve more than
-    /// `isize::MAX` bytes, or if a `Display` or a part of your own returns an error. A `String` is then unchanged, and a `Vec` may have some of the text and zeros at its end. If there is not enough
-    /// memory, the process aborts, as it does for `Vec::push`.
+    /// `isize::MAX` bytes, or if a `Display` or a part of your own returns an error. A `String` is then unchanged, and
+    /// a `Vec` may have some of the text and zeros at its end. If there is not enough memory, the process aborts, as it
+    /// does for `Vec::push`.
     #[track_caller]
     fn push_part<P: Show>(&mut self, part: P);
 }

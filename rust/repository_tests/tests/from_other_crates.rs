@@ -9,10 +9,9 @@ use cojimuran::write::WriteInteger;
 use cojimuran::{
     BUFFER_SIZE, Binary, Buffer, Center, Digits, Displayed, Fixed, Formatted, FormattedSize, Hex, Left, Lower,
     NumberFormat, NumberFormatBuilder, Options, Padded, Part, Plus, PushPart, Right, Scientific, Shown, ToLexical,
-    ToLexicalWithOptions, ZeroPadded,
+    ToLexicalWithOptions, WritePart, ZeroPadded,
 };
 use number_of_128_bits::{format_i128, format_u128};
-use std::io::Write;
 
 #[test]
 fn from_format_and_write() -> std::io::Result<()> {
@@ -30,9 +29,8 @@ fn from_format_and_write() -> std::io::Result<()> {
     text.clear();
     text.push_part((a, ",", b, "\n"));
     assert_eq!(text, format!("{a},{b}\n"));
-    file.write_all((a, ",", b, "\n").to_text(&mut buffer))?;
-    write!(file, "{}", Shown((a, ",", b, "\n")))?;
-    assert_eq!(file, b"-1,2\n-1,2\n");
+    file.write_part((a, ",", b, "\n"))?;
+    assert_eq!(file, b"-1,2\n");
     text.clear();
     text.push_part((Displayed(&format_args!("{float:.2}")), ",", b, "\n"));
     assert_eq!(text, format!("{float:.2},{b}\n"));

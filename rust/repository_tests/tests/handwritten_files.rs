@@ -1,11 +1,14 @@
-//! What the package has by hand: the ends of a `Vec` and of a `String`, values with `Display`, and owned strings.
+//! What the package has by hand: the ends of a `Vec` and of a `String`, files, values with `Display`, and owned
+//! strings.
 
 use cojimuran::{
-    Bytes, Center, Digits, Displayed, Joined, Left, Lower, Padded, Part, PushPart, Right, Show, Shown, ZeroPadded,
+    Bytes, Center, Digits, Displayed, Joined, Left, Lower, Padded, Part, PushPart, Right, Show, Shown, WritePart,
+    ZeroPadded,
 };
 use std::borrow::Cow;
 use std::cell::Cell;
 use std::fmt::{self, Write};
+use std::io::{self, ErrorKind};
 use std::net::Ipv4Addr;
 #[cfg(target_arch = "x86_64")]
 use std::os::unix::process::ExitStatusExt;
@@ -89,6 +92,61 @@ fn strings_stay_as_they_are_if_a_part_is_refused() {
 }
 
 #[test]
+fn files() {
+    let mut file = Vec::new();
+    file.write_part(("id=", 7u8, ",", "é")).unwrap();
+    let writer: &mut dyn io::Write = &mut file;
+    writer.write_part(Joined(&[u64::MAX; 13], ",")).unwrap();
+    writer.write_part((Displayed(&-1.5), &String::from("a"))).unwrap();
+    let list = vec![u64::MAX.to_string(); 13].join(",");
+    assert_eq!(file, format!("id=7,é{list}-1.5a").as_bytes());
+    // A text that could not exceed 256 bytes is one piece, and another one has a piece for each member.
+    let mut pieces = Pieces(Vec::new());
+    pieces.write_part(("a", 7u8, true)).unwrap();
+    pieces.write_part(("a", Displayed(&7), true)).unwrap();
+    assert_eq!(pieces.0, ["a7true", "a", "7", "true"]);
+}
+
+#[test]
+fn parts_that_are_not_written_to_a_file() {
+    let mut file = Vec::new();
+    for (result, message) in [
+        (file.write_part(Padded(123u8, 2)), "the part is not valid, or the text is not UTF-8"),
+        (file.write_part(("no", Padded(123u8, 2))), "the part is not valid, or the text is not UTF-8"),
+        (file.write_part(Bytes(&[200])), "the part is not valid, or the text is not UTF-8"),
+        (file.write_part(Displayed(&Never)), "a `Display` or a part of another crate returned an error"),
+    ] {
+        let error = result.unwrap_err();
+        assert_eq!((error.kind(), error.to_string().as_str()), (ErrorKind::InvalidInput, message));
+    }
+}
+
+/// A writer that keeps each piece that is written, and has no place for an `!`.
+struct Pieces(Vec<String>);
+
+impl io::Write for Pieces {
+    fn write(&mut self, bytes: &[u8]) -> io::Result<usize> {
+        if bytes.contains(&b'!') {
+            return Err(ErrorKind::StorageFull.into());
+        }
+        self.0.push(String::from_utf8(bytes.to_vec()).unwrap());
+        Ok(bytes.len())
+    }
+
+    fn flush(&mut self) -> io::Result<()> {
+        Ok(())
+    }
+}
+
+#[test]
+fn errors_of_a_file_are_returned() {
+    let mut pieces = Pieces(Vec::new());
+    assert_eq!(pieces.write_part(("a", 7u8, "!")).unwrap_err().kind(), ErrorKind::StorageFull);
+    assert_eq!(pieces.write_part(("a", Displayed(&7), "!b")).unwrap_err().kind(), ErrorKind::StorageFull);
+    assert_eq!(pieces.0, ["a", "7"]);
+}
+
+#[test]
 fn values_with_display() {
     let address = Ipv4Addr::new(127, 0, 0, 1);
     let line = ("t=", Displayed(&-1.5), " at ", Displayed(&address), ":", 80u16);
@@ -133,6 +191,7 @@ fn how_often_a_value_is_formatted() {
     check(1, "write_pieces", &|| line.write_pieces(&mut String::new()).unwrap());
     check(1, "push_part to a String", &|| String::new().push_part(line));
     check(2, "push_part to a Vec", &|| Vec::new().push_part(line));
+    check(1, "write_part", &|| Vec::new().write_part(line).unwrap());
 
     let column = Right(Displayed(&value), 6, b'.');
     check(1, "to_str of a column", &|| assert_eq!(column.to_str(&mut [0; 6]), "..text"));

@@ -39,6 +39,9 @@ macro_rules! check_rooms {
         let mut string = String::from("ab");
         string.push_part($part);
         assert_eq!(string, format!("ab{}", $text), "{name} at the end of a string");
+        let mut file = b"ab".to_vec();
+        file.write_part($part).unwrap();
+        assert_eq!(file, bytes, "{name} in a file");
     )+ };
 }
 

@@ -2,7 +2,7 @@
 
 use cojimuran::{
     Digits, Hex, InRadix, Lower, NumberFormat, NumberFormatBuilder, Options, Padded, Part, PushPart, Right, Show,
-    Shown, ToLexical, ToLexicalWithOptions, ZeroPadded,
+    Shown, ToLexical, ToLexicalWithOptions, WritePart, ZeroPadded,
 };
 use std::fmt::Write as _;
 use std::hint::black_box;
@@ -146,22 +146,24 @@ pub fn is_same<C: Case>(number: u64) -> bool {
     C::write_by_std(number, &mut text).is_none_or(|()| buffer[..count] == *text)
 }
 
-/// Where the texts go, and for a `String` by which call.
+/// Where the texts go, and by which call. A `Vec` also stands for a file.
 #[derive(Clone, Copy)]
 pub enum Target {
     Array,
     Slice,
     Vector,
+    File,
     Text,
     Pieces,
     Format,
 }
 
 /// Each target, and its name in the table.
-pub const TARGETS: [(Target, &str); 6] = [
+pub const TARGETS: [(Target, &str); 7] = [
     (Target::Array, "an array"),
     (Target::Slice, "a slice"),
     (Target::Vector, "`push_part` to a `Vec`"),
+    (Target::File, "`write_part` to it"),
     (Target::Text, "`push_part` to a `String`"),
     (Target::Pieces, "`write_pieces` to it"),
     (Target::Format, "`{}` to it"),
@@ -177,6 +179,7 @@ pub fn write_all<C: Case>(target: Target, numbers: &[u64]) -> usize {
         Target::Array => to_array(numbers, |number, buffer| C::write(number, buffer)),
         Target::Slice => to_slice(numbers, black_box(&mut [0; SIZE]), |number, buffer| C::write(number, buffer)),
         Target::Vector => to_vector(numbers, |number, bytes| bytes.push_part(C::part(number))),
+        Target::File => to_vector(numbers, |number, bytes| _ = bytes.write_part(C::part(number))),
         Target::Text => to_string(numbers, |number, text| text.push_part(C::part(number))),
         Target::Pieces => to_string(numbers, |number, text| _ = C::part(number).write_pieces(text)),
         Target::Format => to_string(numbers, |number, text| _ = write!(text, "{}", Shown(C::part(number)))),
@@ -192,7 +195,7 @@ pub fn write_all_by_std<C: Case>(target: Target, numbers: &[u64]) -> usize {
     match target {
         Target::Array => to_array(numbers, write),
         Target::Slice => to_slice(numbers, black_box(&mut [0; SIZE]), write),
-        Target::Vector => to_vector(numbers, |number, bytes| _ = C::write_by_std(number, bytes)),
+        Target::Vector | Target::File => to_vector(numbers, |number, bytes| _ = C::write_by_std(number, bytes)),
         Target::Text | Target::Pieces | Target::Format => {
             to_string(numbers, |number, text| _ = C::append_by_std(number, text))
         }

@@ -42,7 +42,8 @@ pub(crate) const NEVER: Attributes = Attributes { lines: "#[inline(never)]", ..N
 /// What rustc says of a type that does not implement a trait. Rattle does not know such attributes.
 pub(crate) const NO_INTEGER: &str = r#"#[diagnostic::on_unimplemented(
 message = "`{Self}` is not an integer type that this crate writes",
-note = "it writes `u8` to `u64`, `usize`, `i8` to `i64` and `isize`; `Displayed(&value)` writes what has `Display`")]"#;
+note = "it writes `u8` to `u64`, `usize`, `i8` to `i64` and `isize`",
+note = "in a line `Displayed(&value)` writes another value with `Display`")]"#;
 pub(crate) const NOT_UNSIGNED: &str = r#"#[diagnostic::on_unimplemented(
 message = "`{Self}` is not an unsigned integer type that this crate writes",
 note = "a literal needs a type, such as `255u8`; a signed number in a radix is written by `Formatted`, one with \

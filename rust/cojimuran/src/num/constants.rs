@@ -25,7 +25,8 @@ pub const BUFFER_SIZE: usize = 128;
 /// ```
 #[diagnostic::on_unimplemented(
     message = "`{Self}` is not an integer type that this crate writes",
-    note = "it writes `u8` to `u64`, `usize`, `i8` to `i64` and `isize`; `Displayed(&value)` writes what has `Display`"
+    note = "it writes `u8` to `u64`, `usize`, `i8` to `i64` and `isize`",
+    note = "in a line `Displayed(&value)` writes another value with `Display`"
 )]
 pub trait FormattedSize: LexicalInteger {
     /// The buffer length in a radix other than 10, with a sign and with groups.

@@ -33,17 +33,17 @@ pub(crate) const MOST_IN_ONE_PIECE: usize = 256;
 )]
 pub trait Show: Part {
     /// Returns whether the part is valid and its text is UTF-8, as `to_str` requires. If it returns `false`, `{}` and
-    /// `write_pieces` of the part return an error. For a part of your own that is always valid, and whose text is always
-    /// UTF-8, return `true`.
+    /// `write_pieces` of the part return an error. For a part of your own that is always valid, and whose text is
+    /// always UTF-8, return `true`.
     #[must_use]
     fn is_showable(self) -> bool;
 
     /// Writes the text to a writer, such as a `String`, in one piece or in several.
     ///
-    /// If you do not define this method, it writes the text in one piece by `to_str`, for which the room must be at most
-    /// 256 bytes. A part that can be longer calls this method of the parts that it consists of, one after another. So
-    /// does a part with a `Digits`, a `PaddedDigits` or a `Formatted`, because `write_pieces` of these needs little code
-    /// for a radix that is known only at run time, and their `to_str` needs [much](crate::costs).
+    /// If you do not define this method, it writes the text in one piece by `to_str`, for which the room must be at
+    /// most 256 bytes. A part that can be longer calls this method of the parts that it consists of, one after another.
+    /// So does a part with a `Digits`, a `PaddedDigits` or a `Formatted`, because `write_pieces` of these needs little
+    /// code for a radix that is known only at run time, and their `to_str` needs [much](crate::costs).
     ///
     /// # Errors
     ///

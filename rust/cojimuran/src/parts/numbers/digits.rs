@@ -94,10 +94,9 @@ impl<T: Radix + DigitCount> Show for Digits<T> {
 /// program has only the code of that radix, wherever the part goes: for example through a function that is not
 /// inlined, or into a [`Joined`](super::super::Joined).
 ///
-/// The radix is from 2 to 36. A Cargo project that writes an `InRadix` with another one does not build (but `cargo check`
-/// does not notice), and in Rattle the part is then not valid.
-/// The digits above 9 are `A` to `Z`, and [`Lower`](super::super::Lower) of the part writes `a` to `z`. A literal needs
-/// a type, because an `i32` is signed.
+/// The radix is from 2 to 36. A Cargo project that writes an `InRadix` with another one does not build (but `cargo
+/// check` does not notice), and in Rattle the part is then not valid. The digits above 9 are `A` to `Z`, and
+/// [`Lower`](super::super::Lower) of the part writes `a` to `z`. A literal needs a type, because an `i32` is signed.
 ///
 /// ```
 /// use cojimuran::{InRadix, Lower, Part};

@@ -14,7 +14,8 @@ use jeaiii::{from_i64, from_u8, from_u16, from_u32, from_u64};
 /// An unsigned integer type whose numbers are written in decimal, two digits at a time.
 #[diagnostic::on_unimplemented(
     message = "`{Self}` is not an integer type that this crate writes",
-    note = "it writes `u8` to `u64`, `usize`, `i8` to `i64` and `isize`; `Displayed(&value)` writes what has `Display`"
+    note = "it writes `u8` to `u64`, `usize`, `i8` to `i64` and `isize`",
+    note = "in a line `Displayed(&value)` writes another value with `Display`"
 )]
 pub trait Decimal: DecimalCount {
     /// The largest number of decimal digits of the magnitude of a number of the signed type with the

@@ -22,7 +22,8 @@ use crate::write_integer::digits::count::DigitCount;
 /// ```
 #[diagnostic::on_unimplemented(
     message = "`{Self}` is not an integer type that this crate writes",
-    note = "it writes `u8` to `u64`, `usize`, `i8` to `i64` and `isize`; `Displayed(&value)` writes what has `Display`"
+    note = "it writes `u8` to `u64`, `usize`, `i8` to `i64` and `isize`",
+    note = "in a line `Displayed(&value)` writes another value with `Display`"
 )]
 pub trait ToLexical: LexicalInteger + FormattedSize {
     /// Writes the number in decimal to the start of the buffer, and returns the length of its text: a
@@ -114,7 +115,8 @@ pub trait ToLexical: LexicalInteger + FormattedSize {
 /// ```
 #[diagnostic::on_unimplemented(
     message = "`{Self}` is not an integer type that this crate writes",
-    note = "it writes `u8` to `u64`, `usize`, `i8` to `i64` and `isize`; `Displayed(&value)` writes what has `Display`"
+    note = "it writes `u8` to `u64`, `usize`, `i8` to `i64` and `isize`",
+    note = "in a line `Displayed(&value)` writes another value with `Display`"
 )]
 pub trait ToLexicalWithOptions: ToLexical {
     /// The type of the options. Options have no effect yet.

@@ -1,0 +1,78 @@
+//! Parts in a file or another `io::Write`. This file is written by hand: what it writes is made by generated code.
+
+use crate::parts::Show;
+use crate::parts::sealed::Sealed;
+use core::fmt;
+use std::io::{Error, ErrorKind, Result, Write};
+
+/// Writes a part to a file, to `stdout` or to any other `io::Write`, with the feature `std`, which is on by default.
+///
+/// ```
+/// use cojimuran::{Hex, WritePart};
+/// use std::io::{BufWriter, Write};
+///
+/// # fn main() -> std::io::Result<()> {
+/// let mut file = BufWriter::new(Vec::new());
+/// file.write_part(("id=", 7u8, " flags=0x", Hex(255u16), "\n"))?;
+/// file.flush()?;
+/// assert_eq!(file.get_ref(), b"id=7 flags=0xFF\n");
+/// # Ok(())
+/// # }
+/// ```
+pub trait WritePart: Write {
+    /// Writes the text of a part. The part must be valid, and its text must be UTF-8, as
+    /// [`to_str`](crate::Part::to_str) says. A call may write in several pieces, so put a file or a socket into a
+    /// `BufWriter`.
+    ///
+    /// # Errors
+    ///
+    /// Returns the error of the writer. If the part is not valid, or its text is not UTF-8, or a `Display` or a part of
+    /// your own returns an error, returns an error of the kind `InvalidInput`. In each case the writer may have the start
+    /// of the text.
+    fn write_part<P: Show>(&mut self, part: P) -> Result<()>;
+}
+
+// It is inlined for the same reason as `push_part`.
+impl<W: Write + ?Sized> WritePart for W {
+    #[cfg_attr(not(debug_assertions), inline(always))]
+    fn write_part<P: Show>(&mut self, part: P) -> Result<()> {
+        const MOST_AT_ONCE: usize = 256;
+        if part.is_known_valid_and_utf8(Sealed) && part.room_bound(Sealed) <= MOST_AT_ONCE {
+            return self.write_all(part.to_text(&mut [0; MOST_AT_ONCE]));
+        }
+        let mut pieces = Pieces {
+            writer: self,
+            error: None,
+        };
+        match part.write_pieces(&mut pieces) {
+            Ok(()) => Ok(()),
+            Err(fmt::Error) => Err(pieces.error.unwrap_or_else(|| refused(part.is_showable()))),
+        }
+    }
+}
+
+/// Returns the error for a part that was not written, although the writer has not failed.
+#[cold]
+fn refused(is_showable: bool) -> Error {
+    let why = if is_showable {
+        "a `Display` or a part of another crate returned an error"
+    } else {
+        "the part is not valid, or the text is not UTF-8"
+    };
+    Error::new(ErrorKind::InvalidInput, why)
+}
+
+/// A writer of bytes that takes pieces of text, and keeps its error.
+struct Pieces<'a, W: ?Sized> {
+    writer: &'a mut W,
+    error: Option<Error>,
+}
+
+impl<W: Write + ?Sized> fmt::Write for Pieces<'_, W> {
+    fn write_str(&mut self, piece: &str) -> fmt::Result {
+        self.writer.write_all(piece.as_bytes()).map_err(|error| {
+            self.error = Some(error);
+            fmt::Error
+        })
+    }
+}
