@@ -50,6 +50,14 @@ builds_with_cmake() {
     > "$later/laterConfigVersion.cmake" || stop 'a later version'
   lexical_c_DIR="$installed" later_DIR="$later" CC="$CC" cmake -S "$crate/tests/cmake" -B "$built" || stop 'cmake'
   cmake --build "$built" || stop 'the build'
+  # A folder of libraries may be a link, as lib64 is to lib.
+  linked=$work/linked
+  mkdir -p "$linked/lib/here" && ln -s here "$linked/lib/there" || stop 'a link'
+  make_c prefix="$linked" libdir="$linked/lib/there" install || stop 'make install into a link'
+  for name in here there; do
+    lexical_c_DIR="$linked/lib/$name/cmake/lexical_c" later_DIR="$later" CC="$CC" cmake -S "$crate/tests/cmake" \
+      -B "$built $name" && cmake --build "$built $name" || stop "the build by the folder $name"
+  done
   for program in shared static lexical_c; do prints 1234567 "$built/$program" || stop "the program $program"; done
   prints main names '-D --defined-only' "$built/libfirst.so" || stop 'the names of libfirst.so'
   readelf -d "$built/lexical_c" | grep "NEEDED.*\[liblexical_c.so.$major\]" || stop 'the soname in lexical_c'
