@@ -63,18 +63,18 @@
 //! The sources are written in Rattle, a dialect of Rust with contracts, and each of their functions is proved: if its
 //! [conditions] hold, a call does not panic, and writes exactly the bytes that its contract specifies. The prover is
 //! not public. A program makes this Rust code from the sources, and the Rust code is tested, not proved. That `{}` and
-//! `write_pieces` succeed is also only tested. Written by hand are `push_part` and `write_part` (which pass on what
-//! generated code writes), [`Displayed`], references to a `String`, and this page.
+//! `write_pieces` succeed is also only tested. `push_part`, `write_part`, [`Displayed`],
+//! references to a `String`, and this page are written by hand.
 //!
 //! # What allocates
 //!
-//! Only `push_part` allocates, which grows its `String` or `Vec`. `write_pieces` allocates if its writer does, and a
-//! [`Displayed`] if its `Display` does.
+//! Only `push_part` allocates, which grows its `String` or `Vec`, and the error of a `write_part` that is refused.
+//! `write_pieces` allocates if its writer does, and a [`Displayed`] if its `Display` does.
 //!
 //! # Without `std`
 //!
-//! The feature `std` has `write_part`, and the feature `alloc` has `push_part` and references to a `String`. With
-//! `default-features = false` the crate uses only `core`.
+//! The feature `std` provides `write_part`, and the feature `alloc` provides `push_part` and references to a `String`.
+//! With `default-features = false` the crate uses only `core`.
 //!
 //! # A `String`, a `Vec`, a format string
 //!
@@ -111,7 +111,7 @@
 //!   [`GroupedFixed`], [`TrimmedFixed`], [`Padded`] and [`PaddedDigits`] take the width, the fill, the `+` and the `0`
 //!   of an integer. `#` and a precision have no effect on them.
 //! - A [`Displayed`] passes all options to its value.
-//! - [`Shown`], which is no part itself, and all other parts of this crate, such as [`Lower`] and [`ZeroPadded`], take
+//! - [`Shown`], which is not a part, and all parts of this crate, such as [`Lower`] and [`ZeroPadded`], take
 //!   the width, the fill and the precision of a `&str`. Integers, strings and references keep the options that they
 //!   have in the standard library.
 //!

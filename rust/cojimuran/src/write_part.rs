@@ -21,33 +21,34 @@ use std::io::{Error, ErrorKind, Result, Write};
 /// ```
 pub trait WritePart: Write {
     /// Writes the text of a part. The part must be valid, and its text must be UTF-8, as
-    /// [`to_str`](crate::Part::to_str) says. A call may write in several pieces, so put a file or a socket into a
-    /// `BufWriter`.
+    /// [`to_str`](crate::Part::to_str) says.
+    ///
+    /// A text of at most 256 bytes is written by one call of `write_all`. For many texts put a file or a socket into a
+    /// `BufWriter`, as for every other `io::Write`.
     ///
     /// # Errors
     ///
     /// Returns the error of the writer. If the part is not valid, or its text is not UTF-8, or a `Display` or a part of
-    /// your own returns an error, returns an error of the kind `InvalidInput`. In each case the writer may have the start
-    /// of the text.
+    /// your own returns an error, returns an error of the kind `InvalidInput`. The writer then has nothing of a text of
+    /// at most 256 bytes, and may have the start of a longer one.
     fn write_part<P: Show>(&mut self, part: P) -> Result<()>;
 }
+
+/// The longest text that is written at once.
+const MOST_AT_ONCE: usize = 256;
 
 // It is inlined for the same reason as `push_part`.
 impl<W: Write + ?Sized> WritePart for W {
     #[cfg_attr(not(debug_assertions), inline(always))]
     fn write_part<P: Show>(&mut self, part: P) -> Result<()> {
-        const MOST_AT_ONCE: usize = 256;
         if part.is_known_valid_and_utf8(Sealed) && part.room_bound(Sealed) <= MOST_AT_ONCE {
             return self.write_all(part.to_text(&mut [0; MOST_AT_ONCE]));
         }
-        let mut pieces = Pieces {
-            writer: self,
-            error: None,
-        };
-        match part.write_pieces(&mut pieces) {
-            Ok(()) => Ok(()),
-            Err(fmt::Error) => Err(pieces.error.unwrap_or_else(|| refused(part.is_showable()))),
+        let mut pieces = Pieces::of(self);
+        if part.write_pieces(&mut pieces).is_err() {
+            return Err(pieces.error.unwrap_or_else(|| refused(part.is_showable())));
         }
+        pieces.write_collected()
     }
 }
 
@@ -62,15 +63,46 @@ fn refused(is_showable: bool) -> Error {
     Error::new(ErrorKind::InvalidInput, why)
 }
 
-/// A writer of bytes that takes pieces of text, and keeps its error.
+/// A writer of bytes that collects pieces of text, and keeps its error.
 struct Pieces<'a, W: ?Sized> {
     writer: &'a mut W,
+    collected: [u8; MOST_AT_ONCE],
+    count: usize,
     error: Option<Error>,
+}
+
+impl<'a, W: Write + ?Sized> Pieces<'a, W> {
+    fn of(writer: &'a mut W) -> Self {
+        Pieces {
+            writer,
+            collected: [0; MOST_AT_ONCE],
+            count: 0,
+            error: None,
+        }
+    }
+
+    fn write_collected(&mut self) -> Result<()> {
+        let count = core::mem::take(&mut self.count);
+        self.writer.write_all(&self.collected[..count])
+    }
+
+    /// Collects a piece. If there is no room for it, first writes what is collected, and a long piece by itself.
+    fn put(&mut self, piece: &[u8]) -> Result<()> {
+        if self.collected.len() - self.count < piece.len() {
+            self.write_collected()?;
+        }
+        if self.collected.len() < piece.len() {
+            return self.writer.write_all(piece);
+        }
+        self.collected[self.count..][..piece.len()].copy_from_slice(piece);
+        self.count += piece.len();
+        Ok(())
+    }
 }
 
 impl<W: Write + ?Sized> fmt::Write for Pieces<'_, W> {
     fn write_str(&mut self, piece: &str) -> fmt::Result {
-        self.writer.write_all(piece.as_bytes()).map_err(|error| {
+        self.put(piece.as_bytes()).map_err(|error| {
             self.error = Some(error);
             fmt::Error
         })

@@ -100,11 +100,15 @@ fn files() {
     writer.write_part((Displayed(&-1.5), &String::from("a"))).unwrap();
     let list = vec![u64::MAX.to_string(); 13].join(",");
     assert_eq!(file, format!("id=7,é{list}-1.5a").as_bytes());
-    // A text that could not exceed 256 bytes is one piece, and another one has a piece for each member.
-    let mut pieces = Pieces(Vec::new());
+    // A text of at most 256 bytes is one piece, whatever is in it. A longer one is cut between its members.
+    let (mut pieces, name) = (Pieces(Vec::new()), "n".repeat(255));
     pieces.write_part(("a", 7u8, true)).unwrap();
-    pieces.write_part(("a", Displayed(&7), true)).unwrap();
-    assert_eq!(pieces.0, ["a7true", "a", "7", "true"]);
+    pieces.write_part(("a", Displayed(&7), &String::from("b"))).unwrap();
+    pieces.write_part((7u8, name.as_str())).unwrap();
+    pieces.write_part((17u8, name.as_str(), 5u8)).unwrap();
+    pieces.write_part((7u8, "n".repeat(257).as_str(), 5u8)).unwrap();
+    let (one, long) = (format!("7{name}"), "n".repeat(257));
+    assert_eq!(pieces.0, ["a7true", "a7b", &one, "17", &format!("{name}5"), "7", &long, "5"]);
 }
 
 #[test]
@@ -119,6 +123,7 @@ fn parts_that_are_not_written_to_a_file() {
         let error = result.unwrap_err();
         assert_eq!((error.kind(), error.to_string().as_str()), (ErrorKind::InvalidInput, message));
     }
+    assert_eq!(file, b"");
 }
 
 /// A writer that keeps each piece that is written, and has no place for an `!`.
@@ -143,7 +148,10 @@ fn errors_of_a_file_are_returned() {
     let mut pieces = Pieces(Vec::new());
     assert_eq!(pieces.write_part(("a", 7u8, "!")).unwrap_err().kind(), ErrorKind::StorageFull);
     assert_eq!(pieces.write_part(("a", Displayed(&7), "!b")).unwrap_err().kind(), ErrorKind::StorageFull);
-    assert_eq!(pieces.0, ["a", "7"]);
+    assert_eq!(pieces.write_part(("a", "n".repeat(256).as_str(), "!")).unwrap_err().kind(), ErrorKind::StorageFull);
+    assert_eq!(pieces.write_part(("!", "n".repeat(256).as_str())).unwrap_err().kind(), ErrorKind::StorageFull);
+    assert_eq!(pieces.write_part(("a", "!".repeat(257).as_str())).unwrap_err().kind(), ErrorKind::StorageFull);
+    assert_eq!(pieces.0, ["a", &"n".repeat(256), "a"]);
 }
 
 #[test]
