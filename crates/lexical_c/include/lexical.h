@@ -13,7 +13,7 @@
  *
  * T stands for a type: u8, u16, u32, u64, size, i8, i16, i32 or i64. lexical_decimal,
  * lexical_write and lexical_length choose a function by the type of the value, in C++, in
- * C11 and later, and in C99 with gcc or clang. In any C you can name the type, as in
+ * C11 and later, and in C99 with gcc or clang. In every C you can name the type, as in
  * lexical_decimal_i32(-42, text, sizeof text).
  *
  * These lines store the string "-42", and set count to 3:
@@ -50,10 +50,10 @@
  * lexical_pad. The call writes nothing outside the buffer, and keeps no pointer to it.
  * Bytes after the text keep their values.
  *
- * Size. Compute it as a size_t. Then a subtraction that wraps around, such as `size - 2` for
- * a size of 1, is no danger: a size above PTRDIFF_MAX counts as 0, because no buffer is so
- * large. If an unsigned int wraps around on a 64-bit target, the result is not above
- * PTRDIFF_MAX, and the call may write past the buffer.
+ * Size. Compute it as a size_t. A size above PTRDIFF_MAX counts as 0, because no buffer is
+ * so large: it is a subtraction that wrapped around, such as `size - 2` for a size of 1. If
+ * an unsigned int wraps around on a 64-bit target, the result is not above PTRDIFF_MAX, and
+ * the call may write past the buffer.
  *
  * Size of the buffer. LEXICAL_BUFFER_SIZE bytes are enough for every number of every
  * type in every format. A terminating NUL needs one byte more.
@@ -61,7 +61,7 @@
  * Errors. A call that writes returns the length of the text, without a NUL. A text is never
  * empty, so 0 means an error: the format is invalid or the text does not fit. The buffer is
  * then unchanged, except by lexical_terminate, which makes it an empty string, unless
- * `size` is 0. To find the cause, call lexical_check_format(format). If it returns 0, the
+ * `size` is or counts as 0. To find the cause, call lexical_check_format(format). If it returns 0, the
  * buffer was too short. No call changes errno.
  *
  * Threads and signals. The functions have no state and allocate nothing. So you can call
@@ -286,8 +286,8 @@ struct lexical_format {
 LEXICAL_HAS((visibility("hidden")))
 inline constexpr lexical_format lexical_standard_format = LEXICAL_STANDARD_FORMAT;
 #elif defined(__GNUC__)
-/* Each program and each shared library has one copy, which is not exported. It is weak, and
-   not static, so that a C inline function may use it. */
+/* Each file that includes this header has a copy, of which the linker uses one, and does not
+   export it. It is weak, and not static, so that a C inline function may use it. */
 extern __attribute__((weak, visibility("hidden"))) const struct lexical_format lexical_standard_format;
 const struct lexical_format lexical_standard_format = LEXICAL_STANDARD_FORMAT;
 #else
