@@ -17,7 +17,7 @@ fn run(name: &str, output: impl Into<Stdio>) -> Output {
 
 #[test]
 fn recorded_answers() {
-    for name in ["good", "hostile", "vectors"] {
+    for name in ["good", "hostile", "not_ascii", "vectors"] {
         let read = |file| fs::read_to_string(folder_of(name).join(file)).unwrap();
         let run = run(name, Stdio::piped());
         assert_eq!(run.status.code(), read("status").trim().parse().ok(), "{name}");
