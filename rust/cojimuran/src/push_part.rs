@@ -64,7 +64,17 @@ mod sealed {
 }
 
 /// The largest room of a part that is written to an array first.
-const MOST_AT_ONCE: usize = 256;
+pub(crate) const MOST_AT_ONCE: usize = 256;
+
+/// Returns why `write_pieces` of a part has returned an error, although its writer has not.
+#[cold]
+pub(crate) fn why_refused<P: Show>(part: P) -> &'static str {
+    if part.is_showable() {
+        "a `Display` or a part of another crate returned an error"
+    } else {
+        "the part is not valid, or the text is not UTF-8"
+    }
+}
 
 /// Returns a number of bytes that is enough for the text, and counts no digits for it if an array is large enough.
 #[track_caller]
@@ -106,11 +116,7 @@ impl PushPart for String {
         let start = self.len();
         if part.write_pieces(self).is_err() {
             self.truncate(start);
-            assert!(
-                part.is_showable(),
-                "the part is not valid, or the text is not UTF-8"
-            );
-            panic!("a `Display` or a part of another crate returned an error");
+            panic!("{}", why_refused(part));
         }
     }
 }

@@ -2,6 +2,7 @@
 
 use crate::parts::Show;
 use crate::parts::sealed::Sealed;
+use crate::push_part::{MOST_AT_ONCE, why_refused};
 use core::fmt;
 use std::io::{Error, ErrorKind, Result, Write};
 
@@ -34,9 +35,6 @@ pub trait WritePart: Write {
     fn write_part<P: Show>(&mut self, part: P) -> Result<()>;
 }
 
-/// The longest text that is written at once.
-const MOST_AT_ONCE: usize = 256;
-
 // It is inlined for the same reason as `push_part`.
 impl<W: Write + ?Sized> WritePart for W {
     #[cfg_attr(not(debug_assertions), inline(always))]
@@ -46,21 +44,11 @@ impl<W: Write + ?Sized> WritePart for W {
         }
         let mut pieces = Pieces::of(self);
         if part.write_pieces(&mut pieces).is_err() {
-            return Err(pieces.error.unwrap_or_else(|| refused(part.is_showable())));
+            let refused = || Error::new(ErrorKind::InvalidInput, why_refused(part));
+            return Err(pieces.error.unwrap_or_else(refused));
         }
         pieces.write_collected()
     }
-}
-
-/// Returns the error for a part that was not written, although the writer has not failed.
-#[cold]
-fn refused(is_showable: bool) -> Error {
-    let why = if is_showable {
-        "a `Display` or a part of another crate returned an error"
-    } else {
-        "the part is not valid, or the text is not UTF-8"
-    };
-    Error::new(ErrorKind::InvalidInput, why)
 }
 
 /// A writer of bytes that collects pieces of text, and keeps its error.
