@@ -1,7 +1,7 @@
 //! Prints the nanoseconds that a number takes beside other crates, and the instructions, which valgrind counts:
 //! `cargo run --release`. With `-- --times` it prints only nanoseconds, and needs no valgrind. With `-- --by-digits` it
-//! counts instructions by the number of digits, as `docs/figures/draw` takes them. With the feature `format_into` it
-//! also has that method of std, which is not stable yet.
+//! prints the instructions by the number of digits. With the feature `format_into` it also has that method of std,
+//! which is not stable yet.
 
 #![cfg_attr(feature = "format_into", feature(int_format_into))]
 
@@ -37,14 +37,17 @@ fn print_table(with_instructions: bool) {
     }
 }
 
-/// Prints the counts of the row with a name by the number of digits in a radix.
-fn print_by_digits(name: &str, radix: u64, most: u32) {
+/// Prints the instructions of the row with a name, for numbers of so many digits in a radix.
+fn print_by_digits(name: &str, radix: u64, digits: &[u32]) {
     let rows = rows();
     let row = rows.iter().position(|row| row.name == name).expect("a row of this name");
-    for digits in 1..=most {
+    let columns = 0..rows[row].loops().len();
+    let others: String = rows[row].others.iter().map(|(name, _)| format!(" {name} |")).collect();
+    println!("| digits in radix {radix} | cojimuran |{others}\n|---|{}", "---|".repeat(columns.len()));
+    for digits in digits.iter().copied() {
         let length = Some(Length { radix, digits });
-        let counts = (0..rows[row].loops().len()).map(|column| format!("{:.0}", instructions(row, column, length)));
-        println!("{radix} {digits} {}", counts.collect::<Vec<_>>().join(" "));
+        let counts = columns.clone().map(|column| format!(" {:.0} |", instructions(row, column, length)));
+        println!("| {digits} |{}", counts.collect::<String>());
     }
 }
 
@@ -54,8 +57,9 @@ fn main() -> ExitCode {
         [] => print_table(true),
         ["--times"] => print_table(false),
         ["--by-digits"] => {
-            print_by_digits(U64_AS_BYTES, 10, 20);
-            print_by_digits(U64_IN_RADIX_36, 36, 13);
+            print_by_digits(U64_AS_BYTES, 10, &[1, 5, 10, 15, 20]);
+            println!();
+            print_by_digits(U64_IN_RADIX_36, 36, &[1, 5, 9, 13]);
         }
         ["--run", row, column, radix, digits, count] => Run::of([row, column, radix, digits, count]).perform(),
         _ => {
