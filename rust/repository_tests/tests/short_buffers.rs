@@ -1,5 +1,5 @@
 //! Buffers that are too short. A call panics, or writes a text that fits all the same, and changes no byte outside of
-//! its buffer. Each function whose documentation names this condition has such a call.
+//! its buffer.
 
 use cojimuran::algorithm::algorithm;
 use cojimuran::buffer::{copy_to_front, front_mut};
@@ -14,7 +14,6 @@ use cojimuran::{
 };
 use lexwrite::lines::join;
 use repository_tests::calls::{check_in_time, with_buffer};
-use repository_tests::documented_panics::{Panicking, SHORT_BUFFER, check_each_has_a_call};
 
 /// Calls with buffers that are too short, or just long enough. A call panics, or writes the text that fits all the
 /// same. To a longer buffer it writes the text, and leaves what follows as it was.
@@ -30,18 +29,13 @@ fn check_short(text: &[u8], call: impl Fn(&mut [u8]) -> usize) {
     assert!(rest.iter().all(|byte| *byte == 7), "what follows {text:?}: {rest:?}");
 }
 
-/// Checks several calls whose text is the same, and adds them to those that panic.
+/// Takes rows `TEXT => CALL, ..;`, and checks the calls, which write this text.
 macro_rules! check_each_short {
-    ($tried:ident; $($text:expr => $($call:expr),+;)+) => {
-        $($(
-            check_short($text, $call);
-            $tried.push((SHORT_BUFFER, stringify!($call)));
-        )+)+
-    };
+    ($($text:expr => $($call:expr),+;)+) => { $($(check_short($text, $call);)+)+ };
 }
 
-/// Makes calls of each function with a buffer, and adds them.
-fn try_each_function(tried: &mut Vec<Panicking>) {
+/// Checks calls of each function with a buffer.
+fn check_each_function() {
     let hexadecimal = NumberFormatBuilder::from_radix(16);
     let signed = NumberFormatBuilder::new().required_mantissa_sign(true).build_strict();
     let thousands = NumberFormatBuilder::new().digit_grouping(3, b',').build_strict();
@@ -49,7 +43,7 @@ fn try_each_function(tried: &mut Vec<Panicking>) {
     let options = Options::new();
     let digits = &b"18446744073709551615"[..];
     let table = table::get_table;
-    check_each_short! { tried;
+    check_each_short! {
         b"abc" => |b| copy_to_front(b"abc", b);
         &[7; 9] => |b| front_mut(b, 9).len();
         &[7, b',', 7, 7, 7] => |b| group_digits(4, &thousands, b);
@@ -84,11 +78,7 @@ fn try_each_function(tried: &mut Vec<Panicking>) {
 
 #[test]
 fn short_buffers_of_each_function() {
-    check_in_time("a short buffer", 10, || {
-        let tried = &mut Vec::new();
-        try_each_function(tried);
-        check_each_has_a_call(tried, |condition| condition == SHORT_BUFFER, 30);
-    });
+    check_in_time("a short buffer", 10, check_each_function);
 }
 
 #[test]

@@ -161,22 +161,6 @@ mod tests {
     }
 
     #[test]
-    fn the_page_has_the_columns() {
-        assert!(include_str!("../README.md").contains(&format!("\n    {COLUMNS}\n")));
-    }
-
-    #[test]
-    fn rows_that_are_asked_for() {
-        let asked_for = |words: &[&str]| asked(&words.iter().map(ToString::to_string).collect::<Vec<_>>());
-        let found = |words| asked_for(words).map(|(rows, count)| (rows.len(), count));
-        assert_eq!(found(&[]), Some((14, 200)));
-        assert_eq!(found(&["--passes", "5", "decimal", "six digits"]), Some((3, 5)));
-        assert!(
-            [["--passes", "0"], ["--passes", "x"], ["decimal", "--passes"]].iter().all(|words| found(words).is_none())
-        );
-    }
-
-    #[test]
     fn the_best_and_what_the_median_adds() {
         assert_eq!(text_of(vec![4.0, 1.5, 3.5]), (1.5, "1.5 (+2.0)".to_owned()));
     }
