@@ -24,18 +24,6 @@ passes_checked() {
   runs_with "$CC" '-std=c99 -O1' "$crate/tests/library.c" || stop 'library.c'
 }
 
-# Whether archive explains itself, and refuses an option that it does not know or that has no value.
-explains_itself() {
-  "$copy/rust/lexical_c/archive" --help > "$work/help" || stop 'archive --help'
-  grep '^usage: archive ' "$work/help" || stop 'the usage'
-  for word in --emit=asm --target --out; do
-    "$copy/rust/lexical_c/archive" --out "$work/none" $word > "$work/said" 2>&1
-    [ $? -eq 2 ] || stop "the exit status with $word"
-    cmp "$work/said" "$work/help" || stop "the usage with $word"
-    [ ! -e "$work/none" ] || stop "nothing is made with $word"
-  done
-}
-
 # Whether archive refuses flags of rustc that it cannot build with, before a linker complains of what it has made.
 refuses_flags() {
   echo -Clinker-plugin-lto > "$work/flags"
@@ -52,6 +40,5 @@ check_archive() {
   if [ "$builder" != rustc ]; then return; fi
   expect 'the sources in another folder make the same library' archives_the_same
   expect 'library.c with the checks of a debug build' passes_checked
-  expect 'archive --help and wrong options' explains_itself
   expect 'flags of rustc that do not work' refuses_flags
 }

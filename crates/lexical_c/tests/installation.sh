@@ -64,9 +64,8 @@ honours_folders() {
 
 check_installation() {
   expect 'install before make' refuses 'run make first' BUILD="$work/nothing"
-  for wrong in '/a b' '/a&b' '/a|b' '/a,b' "/a'b" '/a"b' a/b; do
-    expect "the prefix $wrong" refuses 'without spaces' prefix="$wrong"
-  done
+  expect 'a prefix with a space' refuses 'without spaces' prefix='/a b'
+  expect 'a prefix that is not absolute' refuses 'without spaces' prefix=a/b
   expect 'an empty includedir' refuses 'not be empty' includedir=
   expect 'a libdir that is not below prefix' refuses 'below prefix' prefix=/usr libdir=/lib
   expect 'the library is replaced, not overwritten' replaces_library

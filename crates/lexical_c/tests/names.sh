@@ -2,17 +2,7 @@
 # shellcheck shell=sh disable=SC2086,SC2154
 
 # names FLAGS FILE: prints the names that nm finds, without their addresses and kinds.
-names() { nm $1 "$2" | sed -n 's/^[0-9a-f ]* [A-Zu] //p' | sed 's/@@/@/; /^LEXICAL_C_/d' | LC_ALL=C sort; }
-
-# Whether the nodes of released versions have the names that the releases had, and no others. Only a release writes the
-# file, so a change of exports.map that moves or removes a name of a release does not change it too.
-keeps_released_names() {
-  sed -n 's/^ \(lexical_.*\) [0-9.]*$/\1/p' "$crate/package/debian/liblexical-c$major.symbols" > "$work/released"
-  sed 's/.*\(@.*\)/\1$/' "$work/released" | sort -u > "$work/nodes"
-  names '-D --defined-only --with-symbol-versions' "$folder/liblexical_c.so" > "$work/exported"
-  [ -s "$work/released" ] || stop 'the names of released versions'
-  grep -f "$work/nodes" "$work/exported" | diff "$work/released" - || stop 'the names in these nodes'
-}
+names() { nm $1 "$2" | sed -n 's/^[0-9a-f ]* [A-Zu] //p' | sed '/^LEXICAL_C_/d' | LC_ALL=C sort; }
 
 # Prints what the archive uses of the C library, and not what 32 bits also need of the compiler.
 imported_names() { names -u "$library" | grep -vx '_GLOBAL_OFFSET_TABLE_\|__u...di3' | tr '\n' ' '; }
@@ -43,7 +33,6 @@ check_names() {
   expect 'the names of the archive are those of the header' prints "$wanted" names '-g --defined-only' "$library"
   expect 'the names of the shared library are those of the header' prints "$wanted" \
     names '-D --defined-only --without-symbol-versions' "$folder/liblexical_c.so"
-  expect 'the names of released versions are in their nodes' keeps_released_names
   expect 'what the archive uses' prints "$imported" imported_names
   expect_with man 'the manual' shows_manual
   expect 'the example of the manual' runs_example_of_manual
