@@ -122,7 +122,7 @@ fn write_by_table_out_of_line<T: UnsignedInteger, const R: u32>(
 
 // Writes a number as `write_by_table` does. One or two digits, which are frequent, and each number of a type of 8 or 16
 // bits, whose code is short, are written in the caller. A longer number is written by a call.
-fn write_short_inline<T: UnsignedInteger, const R: u32>(
+fn write_with_short_inline<T: UnsignedInteger, const R: u32>(
     value: T,
     buffer: &mut [u8],
     turns: &mut Turns,
@@ -158,7 +158,7 @@ pub(crate) fn write_in_radix<T: UnsignedInteger>(
     ensures digits { WritesDigits radix (T.magnitude value) buffer.old buffer.new result }
     ensures notes { turns.new ≡ turns.old ++ table_notes radix (T.magnitude value) }
 {
-    by_radix!(radix, write_by_table or write_short_inline::<T>(value, buffer, turns))
+    by_radix!(radix, write_by_table or write_with_short_inline::<T>(value, buffer, turns))
 }
 
 // Writes the digits as `write_in_radix` does, but by a call. Only in a radix that is no power of 2, one or two digits and
@@ -174,7 +174,7 @@ fn write_in_radix_out_of_line<T: UnsignedInteger>(
     ensures digits { WritesDigits radix (T.magnitude value) buffer.old buffer.new result }
     ensures notes { turns.new ≡ turns.old ++ table_notes radix (T.magnitude value) }
 {
-    by_radix!(radix, write_by_table_out_of_line or write_short_inline::<T>(value, buffer, turns))
+    by_radix!(radix, write_by_table_out_of_line or write_with_short_inline::<T>(value, buffer, turns))
 }
 
 /// Writes the digits of the number as `Radix::radix` does, by code that rustc has in each caller: the radix is to be

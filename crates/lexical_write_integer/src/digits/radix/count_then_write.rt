@@ -10,7 +10,7 @@ ghost use Rattle.lexical_write_integer.specs.LoopTurns.{count_notes, loop_notes,
 
 use super::steps::{
     count_one_or_two_by_division, fourth_power, last_four, note_up_to_four, remove_four,
-    remove_two, write_counted_pair, write_four, write_pair_as_word,
+    remove_two, write_pair_by_bytes, write_four, write_pair_by_word,
 };
 use crate::digits::count::{DigitCount, fast_log2, has_fast_count};
 use crate::digits::pairs::RadixTable;
@@ -45,7 +45,7 @@ fn write_three_or_four<const R: u32>(
     let count = count_three_or_four(number, R);
     // rustc tests the end of these bytes once.
     let written = &mut buffer[..count];
-    write_pair_as_word(
+    write_pair_by_word(
         remove_two::<R>(number, loop_turns),
         count - 2,
         table,
@@ -108,7 +108,7 @@ pub(super) fn write_one_or_two_digits<const R: u32>(
     ensures notes { turns.new ≡ turns.old ++ table_notes R number }
 {
     let count = count_one_or_two_digits(number, R, turns);
-    write_pair_as_word(number, count, table, buffer);
+    write_pair_by_word(number, count, table, buffer);
     count
 }
 
@@ -129,7 +129,7 @@ fn write_up_to_four<const R: u32>(
     if digits > 2 {
         write_three_or_four(u64::from(number), table, buffer, loop_turns);
     } else {
-        write_counted_pair(number, digits, table, buffer);
+        write_pair_by_bytes(number, digits, table, buffer);
     }
 }
 

@@ -10,7 +10,7 @@ ghost use Rattle.lexical_write_integer.specs.LoopTurns.{loop_notes, slow_notes};
 
 use super::steps::{
     count_one_or_two_by_division, fourth_power, last_four, remove_four, remove_two,
-    write_counted_pair, write_four,
+    write_pair_by_bytes, write_four,
 };
 use crate::digits::pairs::RadixTable;
 use crate::turns::Turns;
@@ -36,7 +36,7 @@ fn count_and_write_one_or_two<const R: u32>(
     ensures notes { turns.new ≡ turns.old ++ slow_notes R number }
 {
     let count = count_one_or_two_by_division(number, R, turns);
-    write_counted_pair(number, count, table, buffer);
+    write_pair_by_bytes(number, count, table, buffer);
     count
 }
 

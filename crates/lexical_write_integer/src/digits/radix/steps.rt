@@ -85,7 +85,7 @@ pub(super) fn count_one_or_two_by_division(number: u32, radix: u32, turns: &mut 
 
 // Writes the one or two digits of a number, which are counted, to the start of the buffer: two characters, of which the
 // first is written over if it is a leading zero.
-pub(super) fn write_counted_pair<const R: u32>(
+pub(super) fn write_pair_by_bytes<const R: u32>(
     number: u32,
     digits: usize,
     table: RadixTable<'_, R>,
@@ -103,9 +103,9 @@ pub(super) fn write_counted_pair<const R: u32>(
     buffer[digits - 1] = table.pairs[pair + 1];
 }
 
-// Writes the one or two digits of a number as `write_counted_pair` does. It reads both characters as one word, in one
+// Writes the one or two digits of a number as `write_pair_by_bytes` does. It reads both characters as one word, in one
 // instruction, but into one of few registers.
-pub(super) fn write_pair_as_word<const R: u32>(
+pub(super) fn write_pair_by_word<const R: u32>(
     number: u64,
     digits: usize,
     table: RadixTable<'_, R>,

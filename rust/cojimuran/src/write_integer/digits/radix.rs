@@ -84,7 +84,7 @@ fn write_by_table_out_of_line<T: UnsignedInteger, const R: u32>(
 // Writes a number as `write_by_table` does. One or two digits, which are frequent, and each number of a type of 8 or 16
 // bits, whose code is short, are written in the caller. A longer number is written by a call.
 #[inline]
-fn write_short_inline<T: UnsignedInteger, const R: u32>(value: T, buffer: &mut [u8]) -> usize {
+fn write_with_short_inline<T: UnsignedInteger, const R: u32>(value: T, buffer: &mut [u8]) -> usize {
     let number = value.as_u64();
     if number < u64::from(R * R) {
         return write_one_or_two_digits(number, RadixTable::<R>::new(), buffer);
@@ -102,7 +102,7 @@ fn write_short_inline<T: UnsignedInteger, const R: u32>(value: T, buffer: &mut [
 #[inline(always)]
 #[track_caller]
 pub(crate) fn write_in_radix<T: UnsignedInteger>(value: T, radix: u32, buffer: &mut [u8]) -> usize {
-    by_radix!(radix, write_by_table or write_short_inline::<T>(value, buffer))
+    by_radix!(radix, write_by_table or write_with_short_inline::<T>(value, buffer))
 }
 
 // Writes the digits as `write_in_radix` does, but by a call. Only in a radix that is no power of 2, one or two digits and
@@ -114,7 +114,7 @@ fn write_in_radix_out_of_line<T: UnsignedInteger>(
     radix: u32,
     buffer: &mut [u8],
 ) -> usize {
-    by_radix!(radix, write_by_table_out_of_line or write_short_inline::<T>(value, buffer))
+    by_radix!(radix, write_by_table_out_of_line or write_with_short_inline::<T>(value, buffer))
 }
 
 /// Writes the digits of the number as `Radix::radix` does, by code that rustc has in each caller: the radix is to be

@@ -4,8 +4,8 @@
 //! the radices in which a count needs no division.
 
 use super::steps::{
-    count_one_or_two_by_division, fourth_power, last_four, remove_four, remove_two,
-    write_counted_pair, write_four, write_pair_as_word,
+    count_one_or_two_by_division, fourth_power, last_four, remove_four, remove_two, write_four,
+    write_pair_by_bytes, write_pair_by_word,
 };
 use crate::write_integer::digits::count::{DigitCount, fast_log2, has_fast_count};
 use crate::write_integer::digits::pairs::RadixTable;
@@ -29,7 +29,7 @@ fn write_three_or_four<const R: u32>(
     let count = count_three_or_four(number, R);
     // rustc tests the end of these bytes once.
     let written = &mut buffer[..count];
-    write_pair_as_word(remove_two::<R>(number), count - 2, table, written);
+    write_pair_by_word(remove_two::<R>(number), count - 2, table, written);
     let pair = 2 * (number as u32 % (R * R)) as usize;
     // Both bytes are read first, so a compiler moves them as one number.
     let (third, fourth) = (table.pairs[pair], table.pairs[pair + 1]);
@@ -77,7 +77,7 @@ pub(super) fn write_one_or_two_digits<const R: u32>(
     buffer: &mut [u8],
 ) -> usize {
     let count = count_one_or_two_digits(number, R);
-    write_pair_as_word(number, count, table, buffer);
+    write_pair_by_word(number, count, table, buffer);
     count
 }
 
@@ -93,7 +93,7 @@ fn write_up_to_four<const R: u32>(
     if digits > 2 {
         write_three_or_four(u64::from(number), table, buffer);
     } else {
-        write_counted_pair(number, digits, table, buffer);
+        write_pair_by_bytes(number, digits, table, buffer);
     }
 }
 

@@ -4,8 +4,8 @@
 //! count needs divisions.
 
 use super::steps::{
-    count_one_or_two_by_division, fourth_power, last_four, remove_four, remove_two,
-    write_counted_pair, write_four,
+    count_one_or_two_by_division, fourth_power, last_four, remove_four, remove_two, write_four,
+    write_pair_by_bytes,
 };
 use crate::write_integer::digits::pairs::RadixTable;
 
@@ -24,7 +24,7 @@ fn count_and_write_one_or_two<const R: u32>(
     buffer: &mut [u8],
 ) -> usize {
     let count = count_one_or_two_by_division(number, R);
-    write_counted_pair(number, count, table, buffer);
+    write_pair_by_bytes(number, count, table, buffer);
     count
 }
 

@@ -46,7 +46,7 @@ pub(super) fn count_one_or_two_by_division(number: u32, radix: u32) -> usize {
 // first is written over if it is a leading zero.
 #[inline(always)]
 #[track_caller]
-pub(super) fn write_counted_pair<const R: u32>(
+pub(super) fn write_pair_by_bytes<const R: u32>(
     number: u32,
     digits: usize,
     table: RadixTable<'_, R>,
@@ -59,11 +59,11 @@ pub(super) fn write_counted_pair<const R: u32>(
     buffer[digits - 1] = table.pairs[pair + 1];
 }
 
-// Writes the one or two digits of a number as `write_counted_pair` does. It reads both characters as one word, in one
+// Writes the one or two digits of a number as `write_pair_by_bytes` does. It reads both characters as one word, in one
 // instruction, but into one of few registers.
 #[inline(always)]
 #[track_caller]
-pub(super) fn write_pair_as_word<const R: u32>(
+pub(super) fn write_pair_by_word<const R: u32>(
     number: u64,
     digits: usize,
     table: RadixTable<'_, R>,

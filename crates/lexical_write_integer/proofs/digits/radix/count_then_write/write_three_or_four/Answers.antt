@@ -58,15 +58,15 @@ slice : (g : _) (c : After-count_three_or_four-count g)
     → length (take c.count_three_or_four-count.result c.args.buffer.now) ≡ c.count_three_or_four-count.result
 slice g c = length-take-le _ _ (room g c)
 
-pub write_pair_as_word-requires : goal.write_pair_as_word-requires
-write_pair_as_word-requires g c =
-    let c' = (goal.at.write_pair_as_word-requires g c).Start in
+pub write_pair_by_word-requires : goal.write_pair_by_word-requires
+write_pair_by_word-requires g c =
+    let c' = (goal.at.write_pair_by_word-requires g c).Start in
     let r = g.row.R in
     let below : c.args.number / (r * r) < r * r =
     div_below c.args.number (r * r) (r * r) (some g c') (rw pow-four at c.requires.below) in
     let counted : c.count_three_or_four-count.result - 2 ≡ digit_count r (c.args.number / (r * r)) =
     omega (arith, first_count g c', c.count_three_or_four-count.ensures.count) in
-    let within = slice g (goal.at.write_pair_as_word-requires g c).After-count_three_or_four-count in
+    let within = slice g (goal.at.write_pair_by_word-requires g c).After-count_three_or_four-count in
     rw (c.remove_two.ensures.left, within) (lit< tt, (below, (counted, omega arith)))
 
 -- the check finds this proof by itself, but with an answer the refusal of a mistake says what is wrong
@@ -92,12 +92,12 @@ bounds-table-pair-2 g c = omega (
 pub bounds-written-count : goal.bounds-written-count
 bounds-written-count g c =
     let sliced = slice g (goal.at.bounds-written-count g c).After-count_three_or_four-count in
-    omega (arith, c.write_pair_as_word.auto.buffer, sliced, c.count_three_or_four-count.ensures.three)
+    omega (arith, c.write_pair_by_word.auto.buffer, sliced, c.count_three_or_four-count.ensures.three)
 
 pub bounds-written-count-2 : goal.bounds-written-count-2
 bounds-written-count-2 g c =
     let sliced = slice g (goal.at.bounds-written-count-2 g c).After-count_three_or_four-count in
-    rw length-set (omega (arith, c.write_pair_as_word.auto.buffer, sliced, c.count_three_or_four-count.ensures.three))
+    rw length-set (omega (arith, c.write_pair_by_word.auto.buffer, sliced, c.count_three_or_four-count.ensures.three))
 
 pub returns-clause-digits : goal.returns-clause-digits
 returns-clause-digits g c =
@@ -112,14 +112,14 @@ returns-clause-digits g c =
     let three = c.count_three_or_four-count.ensures.three in
     let fits = room g counted in
     let within = slice g counted in
-    let first = rw c.remove_two.ensures.left at c.write_pair_as_word.ensures in
+    let first = rw c.remove_two.ensures.left at c.write_pair_by_word.ensures in
     let next : count - 1 ≡ count - 2 + 1 = omega (arith, three) in
     let all : count - 2 + 2 ≡ count = omega (arith, three) in
-    let between = c.write_pair_as_word.new.buffer in
+    let between = c.write_pair_by_word.new.buffer in
     let lo = n % (r * r) in
     let after = set (set between (count - 2 + 1) (digit_char (lo % r))) (count - 2) (digit_char (lo / r)) in
     let block = WritesBlock-last r lo (count - 2) between two (last g c')
-    (omega (arith, c.write_pair_as_word.auto.buffer, within, three)) in
+    (omega (arith, c.write_pair_by_word.auto.buffer, within, three)) in
     let digits = WritesDigits-after {r = r} {count = 2} {at = count - 2} n {before = take count c.args.buffer.now}
     {between = between} {after = after} two c.requires.more (omega (arith, within, is)) (rw pow-two first)
     (subst (λ s. WritesBlock r 2 (n % s) (count - 2) between after) (sym (pow-two r)) block) in

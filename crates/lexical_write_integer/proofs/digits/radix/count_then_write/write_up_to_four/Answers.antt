@@ -17,10 +17,10 @@ few g c =
     fits-within g.row.R c.args.number 2 c.args.table.is_radix.at_least_two
     (omega (arith, c.requires.digits, c.if-digits-gt2.false))
 
-pub write_counted_pair-requires : goal.write_counted_pair-requires
-write_counted_pair-requires g c =
+pub write_pair_by_bytes-requires : goal.write_pair_by_bytes-requires
+write_pair_by_bytes-requires g c =
     let below : c.args.number < g.row.R * g.row.R =
-    rw pow-two at (few g (goal.at.write_counted_pair-requires g c).Else-digits-gt2) in
+    rw pow-two at (few g (goal.at.write_pair_by_bytes-requires g c).Else-digits-gt2) in
     (lit< tt, (below, (c.requires.digits, c.requires.room)))
 
 -- the writer notes nothing

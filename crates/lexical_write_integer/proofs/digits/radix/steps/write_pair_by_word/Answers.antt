@@ -7,7 +7,7 @@ use Rattle.lexical_write_integer.proofs.OfDigits.Count.DigitCounts.{digit_count-
 use Rattle.lexical_write_integer.proofs.OfDigits.Radix.TwoDigits.{WritesBlock-one_or_two}
 use Rattle.lexical_write_integer.proofs.OfDigits.Radix.TablePairs.{length-table, characters-pair, joined}
 use Rattle.lexical_write_integer.proofs.OfTexts.Ascii.{digit_char-ascii}
-use Rattle.lexical_write_integer.proofs.digits.radix.steps.write_pair_as_word.Goals as goal
+use Rattle.lexical_write_integer.proofs.digits.radix.steps.write_pair_by_word.Goals as goal
 
 pub slice_bounds-copy_from_slice-end-2 : goal.slice_bounds-copy_from_slice-end-2
 slice_bounds-copy_from_slice-end-2 g c =

@@ -3,7 +3,7 @@ use Rattle.lexical_write_integer.proofs.Buffers.BlocksAfter.{WritesDigits-block}
 use Rattle.lexical_write_integer.proofs.OfDigits.Count.DigitCounts.{digit_count-pos}
 use Rattle.lexical_write_integer.proofs.OfDigits.Radix.TwoDigits.{WritesBlock-one_or_two}
 use Rattle.lexical_write_integer.proofs.OfDigits.Radix.TablePairs.{length-table, pair_first, pair_second}
-use Rattle.lexical_write_integer.proofs.digits.radix.steps.write_counted_pair.Goals as goal
+use Rattle.lexical_write_integer.proofs.digits.radix.steps.write_pair_by_bytes.Goals as goal
 
 pub bounds-table-pair : goal.bounds-table-pair
 bounds-table-pair g c = omega (arith, c.requires.below, length-table g.row.R c.args.table.pairs.now c.args.table.begins)
