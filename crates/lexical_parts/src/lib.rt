@@ -29,9 +29,11 @@
 // The example is from the test `texts_for_writing` in `crates/uses/src/tests/lines.rt`.
 #![tactic(auto)]
 
-// The trait that each part implements, and what keeps others from defining some of its methods.
+// The trait that each part implements, what keeps others from defining some of its methods, and the trait of the parts
+// that any writer takes.
 mod part;
 pub(crate) mod sealed;
+pub(crate) mod show;
 
 // The parts, by what their texts are.
 mod layout;
@@ -44,7 +46,6 @@ mod formatting;
 // Laws for callers.
 mod laws;
 
-pub use formatting::show::Show;
 pub use formatting::shown::Shown;
 pub use laws::bytes::fixed_has_no;
 pub use laws::equal::{
@@ -70,6 +71,7 @@ pub use numbers::scientific::Scientific;
 pub use numbers::sign::Sign;
 pub use numbers::trimmed::TrimmedFixed;
 pub use part::Part;
+pub use show::Show;
 pub use texts::bytes::{Byte, Bytes};
 pub use texts::hex_bytes::HexBytes;
 pub use texts::lower::Lower;

@@ -28,9 +28,11 @@
 //! [`Center`], [`ZeroPadded`], [`Lower`], [`OrElse`], [`Scientific`] and [`HexBytes`]. `{}` is an error if the part is
 //! not valid, or if it contains a byte that [`Part::to_str`] refuses.
 
-// The trait that each part implements, and what keeps others from defining some of its methods.
+// The trait that each part implements, what keeps others from defining some of its methods, and the trait of the parts
+// that any writer takes.
 mod part;
 pub(crate) mod sealed;
+pub(crate) mod show;
 
 // The parts, by what their texts are.
 mod layout;
@@ -40,7 +42,6 @@ mod texts;
 // Parts in a format string.
 mod formatting;
 
-pub use formatting::show::Show;
 pub use formatting::shown::Shown;
 pub use layout::column::{Center, Left, Right};
 pub use layout::field::write_field;
@@ -59,6 +60,7 @@ pub use numbers::scientific::Scientific;
 pub use numbers::sign::Sign;
 pub use numbers::trimmed::TrimmedFixed;
 pub use part::Part;
+pub use show::Show;
 pub use texts::bytes::{Byte, Bytes};
 pub use texts::hex_bytes::HexBytes;
 pub use texts::lower::Lower;

@@ -3,6 +3,7 @@
 
 use crate::parts::Show;
 use crate::parts::sealed::Sealed;
+use crate::parts::show::MOST_IN_ONE_PIECE;
 use alloc::string::String;
 use alloc::vec::Vec;
 
@@ -63,14 +64,11 @@ mod sealed {
     impl Sealed for super::String {}
 }
 
-/// The largest room of a part that is written to an array first.
-pub(crate) const MOST_AT_ONCE: usize = 256;
-
 /// Returns why `write_pieces` of a part has returned an error, although its writer has not.
 #[cold]
 pub(crate) fn why_refused<P: Show>(part: P) -> &'static str {
     if part.is_showable() {
-        "a `Display` or a part of another crate returned an error"
+        "a `Display` or a part of your own returned an error (above 256 bytes a part needs `write_pieces`)"
     } else {
         "the part is not valid, or the text is not UTF-8"
     }
@@ -82,7 +80,7 @@ pub(crate) fn why_refused<P: Show>(part: P) -> &'static str {
 fn enough_room<P: Show>(part: P) -> usize {
     if part.is_known_valid_and_utf8(Sealed) {
         let bound = part.room_bound(Sealed);
-        if bound <= MOST_AT_ONCE {
+        if bound <= MOST_IN_ONE_PIECE {
             return bound;
         }
     }
@@ -95,8 +93,8 @@ impl PushPart for Vec<u8> {
     #[cfg_attr(not(debug_assertions), inline(always))]
     fn push_part<P: Show>(&mut self, part: P) {
         let (start, room) = (self.len(), enough_room(part));
-        if room <= MOST_AT_ONCE && self.capacity() - start < room {
-            self.extend_from_slice(part.to_text(&mut [0; MOST_AT_ONCE]));
+        if room <= MOST_IN_ONE_PIECE && self.capacity() - start < room {
+            self.extend_from_slice(part.to_text(&mut [0; MOST_IN_ONE_PIECE]));
             return;
         }
         self.resize(start.saturating_add(room), 0);
@@ -109,8 +107,8 @@ impl PushPart for String {
     #[cfg_attr(not(debug_assertions), inline(always))]
     fn push_part<P: Show>(&mut self, part: P) {
         // Other texts go out in pieces: each of these is a `&str` already, and a `Displayed` is formatted only once.
-        if part.is_known_valid_and_utf8(Sealed) && part.room_bound(Sealed) <= MOST_AT_ONCE {
-            self.push_str(part.to_str(&mut [0; MOST_AT_ONCE]));
+        if part.is_known_valid_and_utf8(Sealed) && part.room_bound(Sealed) <= MOST_IN_ONE_PIECE {
+            self.push_str(part.to_str(&mut [0; MOST_IN_ONE_PIECE]));
             return;
         }
         let start = self.len();

@@ -2,7 +2,8 @@
 
 use crate::parts::Show;
 use crate::parts::sealed::Sealed;
-use crate::push_part::{MOST_AT_ONCE, why_refused};
+use crate::parts::show::MOST_IN_ONE_PIECE;
+use crate::push_part::why_refused;
 use core::fmt;
 use std::io::{Error, ErrorKind, Result, Write};
 
@@ -39,8 +40,8 @@ pub trait WritePart: Write {
 impl<W: Write + ?Sized> WritePart for W {
     #[cfg_attr(not(debug_assertions), inline(always))]
     fn write_part<P: Show>(&mut self, part: P) -> Result<()> {
-        if part.is_known_valid_and_utf8(Sealed) && part.room_bound(Sealed) <= MOST_AT_ONCE {
-            return self.write_all(part.to_text(&mut [0; MOST_AT_ONCE]));
+        if part.is_known_valid_and_utf8(Sealed) && part.room_bound(Sealed) <= MOST_IN_ONE_PIECE {
+            return self.write_all(part.to_text(&mut [0; MOST_IN_ONE_PIECE]));
         }
         let mut pieces = Pieces::of(self);
         if part.write_pieces(&mut pieces).is_err() {
@@ -54,7 +55,7 @@ impl<W: Write + ?Sized> WritePart for W {
 /// A writer of bytes that collects pieces of text, and keeps its error.
 struct Pieces<'a, W: ?Sized> {
     writer: &'a mut W,
-    collected: [u8; MOST_AT_ONCE],
+    collected: [u8; MOST_IN_ONE_PIECE],
     count: usize,
     error: Option<Error>,
 }
@@ -63,7 +64,7 @@ impl<'a, W: Write + ?Sized> Pieces<'a, W> {
     fn of(writer: &'a mut W) -> Self {
         Pieces {
             writer,
-            collected: [0; MOST_AT_ONCE],
+            collected: [0; MOST_IN_ONE_PIECE],
             count: 0,
             error: None,
         }

@@ -118,10 +118,10 @@ fn parts_that_are_not_written_to_a_file() {
         (file.write_part(Padded(123u8, 2)), "the part is not valid, or the text is not UTF-8"),
         (file.write_part(("no", Padded(123u8, 2))), "the part is not valid, or the text is not UTF-8"),
         (file.write_part(Bytes(&[200])), "the part is not valid, or the text is not UTF-8"),
-        (file.write_part(Displayed(&Never)), "a `Display` or a part of another crate returned an error"),
+        (file.write_part(Displayed(&Never)), "a `Display` or a part of your own returned an error"),
     ] {
         let error = result.unwrap_err();
-        assert_eq!((error.kind(), error.to_string().as_str()), (ErrorKind::InvalidInput, message));
+        assert!(error.kind() == ErrorKind::InvalidInput && error.to_string().starts_with(message), "{error:?}");
     }
     assert_eq!(file, b"");
 }

@@ -100,7 +100,7 @@ pub(crate) const RECIPES: &[Recipe] = &[
                 functions: "
                     texts/lower.rt:room texts/lower.rt:write_to texts/lower.rt:write_pieces layout/column.rt:room
                     layout/column.rt:write_to layout/zero_padded.rt:room layout/zero_padded.rt:write_to
-                    formatting/show.rt:write_pieces write_in_one_piece write_field write_with_length to_text
+                    show.rt:write_pieces write_in_one_piece write_field write_with_length to_text
                     write_at try_write_to write_if_it_fits try_to_str str_if_it_fits
                     is_known_valid_and_utf8 room_bound has_room",
                 files: "

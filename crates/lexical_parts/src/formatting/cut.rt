@@ -3,7 +3,7 @@
 ghost use Rattle.std.specs.Fmt.{WritesInCalls, char_count, is_char_start, take_chars};
 ghost use Rattle.std.specs.Prelude.{◌≡◌, ℕ, ◌-◌, IfOk, List, [], take};
 
-use crate::formatting::show::Show;
+use crate::show::Show;
 use std::fmt;
 
 // A writer of the first characters of what is written to it.

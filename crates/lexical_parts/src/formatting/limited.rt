@@ -6,7 +6,7 @@ ghost use Rattle.lexical_parts.specs.Length.{IsOfLength};
 ghost use Rattle.lexical_parts.specs.ShownParts.{WritesSome};
 
 use crate::formatting::cut::Nowhere;
-use crate::formatting::show::Show;
+use crate::show::Show;
 use std::fmt;
 
 // A writer that passes on a limited number of bytes.

@@ -13,11 +13,11 @@ ghost use Rattle.lexical_parts.specs.ShownParts.{IsAligned, ShowsSomeOnOk, align
 ghost use Rattle.lexical_parts.specs.ZeroPadded.{zero_padded_text};
 
 use crate::formatting::cut::{Nowhere, write_first_chars};
-use crate::formatting::show::Show;
 use crate::layout::column::{Center, Left, Right};
 use crate::layout::joined::Joined;
 use crate::layout::zero_padded::ZeroPadded;
 use crate::numbers::scientific::Scientific;
+use crate::show::Show;
 use crate::texts::hex_bytes::HexBytes;
 use crate::texts::lower::Lower;
 use crate::texts::option::OrElse;

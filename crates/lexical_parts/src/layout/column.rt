@@ -5,10 +5,10 @@ ghost use Rattle.std.specs.Prelude.{max, ◌<◌};
 ghost use Rattle.lexical_parts.specs.Column.{IsAtLeft, IsAtRight, IsCentered, centered_text, left_text, right_text};
 
 use crate::formatting::limited::{count_bytes, write_exactly};
-use crate::formatting::show::Show;
 use crate::layout::fill::{insert_fill, write_copies, write_fill};
 use crate::part::Part;
 use crate::sealed::Sealed;
+use crate::show::Show;
 use std::fmt;
 
 /// A part, aligned to the left in a column.

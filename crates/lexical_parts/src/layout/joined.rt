@@ -7,9 +7,9 @@ ghost use Rattle.lexical_parts.specs.Joined.{joined_room, joined_text, lead};
 ghost use Rattle.lexical_parts.specs.Sequence.{◌then◌};
 ghost use Rattle.lexical_parts.specs.Utf8.{AreUtf8};
 
-use crate::formatting::show::Show;
 use crate::part::Part;
 use crate::sealed::Sealed;
+use crate::show::Show;
 use crate::texts::strings::str_is_utf8;
 use std::fmt;
 

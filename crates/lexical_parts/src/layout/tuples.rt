@@ -5,9 +5,9 @@ ghost use Rattle.std.specs.Fmt.{option_append};
 ghost use Rattle.std.specs.Prelude.{◌+◌};
 ghost use Rattle.lexical_parts.specs.Sequence.{◌then◌};
 
-use crate::formatting::show::Show;
 use crate::part::Part;
 use crate::sealed::Sealed;
+use crate::show::Show;
 use std::fmt;
 
 // Each length has an `impl` of its own, because `rt ci` refuses one that a macro of ours writes. A tuple of three

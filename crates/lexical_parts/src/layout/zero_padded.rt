@@ -7,10 +7,10 @@ ghost use Rattle.lexical_write_integer.specs.ZerosAfterSign.{sign_length};
 ghost use Rattle.lexical_parts.specs.ZeroPadded.{IsZeroPadded, piece_with_zeros, zero_padded_text, zeros_after};
 
 use crate::formatting::limited::{count_bytes, write_exactly};
-use crate::formatting::show::Show;
 use crate::layout::fill::{insert_fill, write_copies};
 use crate::part::Part;
 use crate::sealed::Sealed;
+use crate::show::Show;
 use std::fmt;
 
 // Returns the length of the sign with which the text begins: 1 for `-` or `+`, and otherwise 0.

@@ -1,7 +1,7 @@
 //! Numbers in any radix, in little code.
 //!
 //! `{}` and `write_pieces` write `Digits`, `PaddedDigits` and `Formatted` by these parts. There the radix is mostly
-//! known only at run time, and the digit pairs of all radices would take 60 KB or more.
+//! known only at run time, and the code of all radices would add 35 KB or more.
 #![tactic(auto, using(crate::proofs::OfTexts::Parts::parts))]
 
 ghost use Rattle.std.specs.Prelude.{◌≤◌, IsTrue, length, unsigned_abs};

@@ -7,10 +7,10 @@ ghost use Rattle.lexical_num.specs.Format.{standard};
 ghost use Rattle.lexical_write_integer.specs.Text.{IsText};
 ghost use Rattle.lexical_parts.specs.Length.{HasLength};
 
-use crate::formatting::show::Show;
 use crate::numbers::formatted::Formatted;
 use crate::part::Part;
 use crate::sealed::Sealed;
+use crate::show::Show;
 use lexical_write_integer::ToLexical;
 use lexical_write_integer::format::STANDARD;
 use lexical_write_integer::laws::size_suffices;

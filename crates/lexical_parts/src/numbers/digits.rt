@@ -8,11 +8,11 @@ ghost use Rattle.lexical_write_integer.specs.DigitCount.{digit_count};
 ghost use Rattle.lexical_write_integer.specs.Text.{IsDigits};
 ghost use Rattle.lexical_parts.specs.Length.{HasLength};
 
-use crate::formatting::show::Show;
 use crate::numbers::compact::CompactDigits;
 use crate::numbers::padded::MOST_DIGITS;
 use crate::part::Part;
 use crate::sealed::Sealed;
+use crate::show::Show;
 use lexical_num::limits::is_radix;
 use lexical_write_integer::digit_count::{DigitCount, most_digits};
 use lexical_write_integer::laws::digit_count_within_bits;
@@ -104,9 +104,9 @@ impl<T: Radix + DigitCount> Show for Digits<T> {
 /// program has only the code of that radix, wherever the part goes: for example through a function that is not
 /// inlined, or into a [`Joined`](super::super::Joined).
 ///
-/// The radix is from 2 to 36. A Cargo project that writes an `InRadix` with another one does not build (but `cargo
-/// check` does not notice), and in Rattle the part is then not valid. The digits above 9 are `A` to `Z`, and
-/// [`Lower`](super::super::Lower) of the part writes `a` to `z`. A literal needs a type, because an `i32` is signed.
+/// The radix is from 2 to 36. Another one is an error of `cargo build`, though not of `cargo check`. The digits above 9
+/// are `A` to `Z`, and [`Lower`](super::super::Lower) of the part writes `a` to `z`. A literal needs a type, because an
+/// `i32` is signed.
 ///
 /// ```
 /// use lexical_parts::{InRadix, Lower, Part};

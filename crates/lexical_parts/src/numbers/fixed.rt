@@ -8,11 +8,11 @@ ghost use Rattle.lexical_parts.specs.Fixed.{AreUnits, IsFixed, IsGroupedFixed, I
 ghost use Rattle.lexical_parts.specs.Fixed.{fixed_room, fixed_text, grouped_units_room};
 ghost use Rattle.lexical_parts.specs.Length.{HasLength};
 
-use crate::formatting::show::Show;
 use crate::layout::fill::insert_fill;
 use crate::numbers::sign::Sign;
 use crate::part::Part;
 use crate::sealed::Sealed;
+use crate::show::Show;
 use lexical_write_integer::format::STANDARD;
 use lexical_write_integer::laws::size_suffices;
 use lexical_write_integer::{NumberFormat, ToLexical, group_digits, sign_len};

@@ -8,10 +8,10 @@ ghost use Rattle.lexical_write_integer.specs.Text.{IsText, need};
 ghost use Rattle.lexical_parts.specs.Formatted.{formatted_room, largest_magnitude};
 ghost use Rattle.lexical_parts.specs.Length.{HasLength};
 
-use crate::formatting::show::Show;
 use crate::numbers::compact::CompactFormatted;
 use crate::part::Part;
 use crate::sealed::Sealed;
+use crate::show::Show;
 use lexical_write_integer::digit_count::DigitCount;
 use lexical_write_integer::{BUFFER_SIZE, NumberFormat, ToLexical, sign_len};
 use std::fmt;

@@ -6,10 +6,10 @@ ghost use Rattle.std.specs.Prelude.{pos, Some, IfSome, IsSome};
 ghost use Rattle.lexical_parts.specs.Sequence.{IsDecimal};
 ghost use Rattle.lexical_parts.specs.Length.{HasLength};
 
-use crate::formatting::show::Show;
 use crate::numbers::decimal::Decimal;
 use crate::part::Part;
 use crate::sealed::Sealed;
+use crate::show::Show;
 
 // Each type has its own `impl`: a generic one would also be one for `&str` and tuples, and `rt ci` refuses one that a
 // macro of ours writes.

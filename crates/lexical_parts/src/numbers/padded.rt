@@ -7,11 +7,11 @@ ghost use Rattle.lexical_num.specs.Format.{IsRadix};
 ghost use Rattle.lexical_write_integer.specs.Padded.{IsPadded};
 ghost use Rattle.lexical_parts.specs.Length.{HasLength};
 
-use crate::formatting::show::{Show, write_in_one_piece};
 use crate::layout::fill::write_copies;
 use crate::numbers::compact::CompactDigits;
 use crate::part::Part;
 use crate::sealed::Sealed;
+use crate::show::{Show, write_in_one_piece};
 use lexical_num::limits::is_radix;
 use lexical_write_integer::digit_count::DigitCount;
 use lexical_write_integer::padded::{fits_decimal_width, write_padded};

@@ -7,10 +7,10 @@ ghost use Rattle.lexical_write_integer.specs.Padded.{IsPadded};
 ghost use Rattle.lexical_write_integer.specs.Text.{IsDigits};
 ghost use Rattle.lexical_parts.specs.Length.{HasLength};
 
-use crate::formatting::show::Show;
 use crate::numbers::padded::PaddedDigits;
 use crate::part::Part;
 use crate::sealed::Sealed;
+use crate::show::Show;
 use lexical_write_integer::digit_count::DigitCount;
 use lexical_write_integer::laws::digit_count_within_bits;
 use lexical_write_integer::radix::{Radix, write_in_constant_radix};

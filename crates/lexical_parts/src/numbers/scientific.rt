@@ -10,10 +10,10 @@ ghost use Rattle.lexical_parts.specs.Scientific.{IsScientific, IsScientificUnsig
 ghost use Rattle.lexical_parts.specs.Sequence.{◌then◌, IsDecimal, IsStr};
 ghost use Rattle.lexical_parts.specs.Length.{HasLength};
 
-use crate::formatting::show::Show;
 use crate::numbers::sign::Sign;
 use crate::part::Part;
 use crate::sealed::Sealed;
+use crate::show::Show;
 use crate::texts::bytes::Bytes;
 use lexical_write_integer::ToLexical;
 use lexical_write_integer::format::STANDARD;

@@ -7,12 +7,12 @@ ghost use Rattle.lexical_parts.specs.Fixed.{fixed_room};
 ghost use Rattle.lexical_parts.specs.Trimmed.{IsTrimmedFixed, IsTrimmedUnits, trimmed_text};
 ghost use Rattle.lexical_parts.specs.Length.{HasLength};
 
-use crate::formatting::show::Show;
 use crate::numbers::fixed::{Fixed, LONGEST_FIXED, write_units};
 use crate::numbers::scientific::count_without_zeros;
 use crate::numbers::sign::Sign;
 use crate::part::Part;
 use crate::sealed::Sealed;
+use crate::show::Show;
 use crate::texts::bytes::Bytes;
 use lexical_write_integer::ToLexical;
 use lexical_write_integer::format::STANDARD;

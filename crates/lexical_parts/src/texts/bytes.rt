@@ -6,9 +6,9 @@ ghost use Rattle.std.specs.Str.{IsUtf8};
 ghost use Rattle.lexical_write_integer.specs.Sequence.{IsExactly};
 ghost use Rattle.lexical_parts.specs.Length.{HasLength};
 
-use crate::formatting::show::Show;
 use crate::part::Part;
 use crate::sealed::Sealed;
+use crate::show::Show;
 use lexical_write_integer::buffer::copy_to_front;
 use std::fmt;
 use std::str::from_utf8;

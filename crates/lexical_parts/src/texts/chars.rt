@@ -5,9 +5,9 @@ ghost use Rattle.std.specs.Prelude.{Some, encode_utf8, IfSome, IsSome};
 ghost use Rattle.lexical_write_integer.specs.Sequence.{IsExactly};
 ghost use Rattle.lexical_parts.specs.Length.{HasLength};
 
-use crate::formatting::show::Show;
 use crate::part::Part;
 use crate::sealed::Sealed;
+use crate::show::Show;
 use crate::texts::strings::str_is_utf8;
 
 impl Part for char {

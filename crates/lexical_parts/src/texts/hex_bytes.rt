@@ -7,10 +7,10 @@ ghost use Rattle.lexical_write_integer.specs.Padded.{IsPadded};
 ghost use Rattle.lexical_write_integer.specs.Sequence.{AreJoined};
 ghost use Rattle.lexical_parts.specs.HexBytes.{hex_bytes_text};
 
-use crate::formatting::show::{MOST_IN_ONE_PIECE, Show, write_in_one_piece};
 use crate::layout::joined::{separator_before, write_next};
 use crate::part::Part;
 use crate::sealed::Sealed;
+use crate::show::{MOST_IN_ONE_PIECE, Show, write_in_one_piece};
 use crate::texts::strings::str_is_utf8;
 use lexical_tables::get_table;
 use std::fmt;

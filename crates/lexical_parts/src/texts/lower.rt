@@ -8,9 +8,9 @@ ghost use Rattle.std.specs.Str.{IsCharBoundary};
 ghost use Rattle.lexical_parts.specs.Lower.{lower_text};
 ghost use Rattle.lexical_write_integer.specs.Lowercase.{IsLowercase};
 
-use crate::formatting::show::Show;
 use crate::part::Part;
 use crate::sealed::Sealed;
+use crate::show::Show;
 use std::fmt;
 
 /// A part in lowercase: its text with `A` to `Z` as `a` to `z`, and every other byte unchanged.

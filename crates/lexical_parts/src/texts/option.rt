@@ -6,9 +6,9 @@ ghost use Rattle.lexical_parts.specs.Length.{HasLength};
 ghost use Rattle.lexical_parts.specs.Optional.{IsOptional, IsOrElse, IsValidOptional, optional_room};
 ghost use Rattle.lexical_parts.specs.Optional.{optional_text, or_else_text};
 
-use crate::formatting::show::Show;
 use crate::part::Part;
 use crate::sealed::Sealed;
+use crate::show::Show;
 use lexical_write_integer::buffer::copy_to_front;
 use std::fmt;
 

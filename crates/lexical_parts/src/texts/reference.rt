@@ -1,8 +1,8 @@
 //! References to parts, which have the text of the part.
 
-use crate::formatting::show::Show;
 use crate::part::Part;
 use crate::sealed::Sealed;
+use crate::show::Show;
 use std::fmt;
 
 impl<P: Part> Part for &P {

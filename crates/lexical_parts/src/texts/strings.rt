@@ -6,9 +6,9 @@ ghost use Rattle.lexical_write_integer.specs.Sequence.{IsExactly};
 ghost use Rattle.lexical_parts.specs.Length.{HasLength};
 ghost use Rattle.lexical_parts.specs.Utf8.{AreUtf8};
 
-use crate::formatting::show::Show;
 use crate::part::Part;
 use crate::sealed::Sealed;
+use crate::show::Show;
 use lexical_write_integer::buffer::copy_to_front;
 use std::fmt;
 

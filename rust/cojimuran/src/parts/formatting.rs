@@ -2,9 +2,6 @@
 
 //! Parts in a format string, such as `{:>10}`.
 
-// Which parts can be there.
-pub(crate) mod show;
-
 // Numbers, which have the options of integers, and other parts, which have those of strings.
 mod cell;
 mod display;

@@ -2,7 +2,7 @@
 
 //! The first characters of a text that is written in pieces, and how many they are.
 
-use crate::parts::formatting::show::Show;
+use crate::parts::show::Show;
 use core::fmt;
 
 // A writer of the first characters of what is written to it.

@@ -3,7 +3,7 @@
 //! The length of a text that is written in pieces.
 
 use crate::parts::formatting::cut::Nowhere;
-use crate::parts::formatting::show::Show;
+use crate::parts::show::Show;
 use core::fmt;
 
 // A writer that passes on a limited number of bytes.

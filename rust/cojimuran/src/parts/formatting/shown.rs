@@ -3,11 +3,11 @@
 //! Parts in a format string with the options of a `&str`: those whose text is not that of one number, and `Scientific`.
 
 use crate::parts::formatting::cut::{Nowhere, write_first_chars};
-use crate::parts::formatting::show::Show;
 use crate::parts::layout::column::{Center, Left, Right};
 use crate::parts::layout::joined::Joined;
 use crate::parts::layout::zero_padded::ZeroPadded;
 use crate::parts::numbers::scientific::Scientific;
+use crate::parts::show::Show;
 use crate::parts::texts::hex_bytes::HexBytes;
 use crate::parts::texts::lower::Lower;
 use crate::parts::texts::option::OrElse;

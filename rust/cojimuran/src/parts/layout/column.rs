@@ -3,10 +3,10 @@
 //! Parts that are padded to the width of a column.
 
 use crate::parts::formatting::limited::{count_bytes, write_exactly};
-use crate::parts::formatting::show::Show;
 use crate::parts::layout::fill::{insert_fill, write_copies, write_fill};
 use crate::parts::part::Part;
 use crate::parts::sealed::Sealed;
+use crate::parts::show::Show;
 use core::fmt;
 
 /// A part, aligned to the left in a column.

@@ -2,9 +2,9 @@
 
 //! The parts of a slice, with a separator between adjacent parts.
 
-use crate::parts::formatting::show::Show;
 use crate::parts::part::Part;
 use crate::parts::sealed::Sealed;
+use crate::parts::show::Show;
 use core::fmt;
 
 // Returns what precedes the part at the index.

@@ -2,9 +2,9 @@
 
 //! Tuples of two to twelve parts, whose text is the texts of their members in order.
 
-use crate::parts::formatting::show::Show;
 use crate::parts::part::Part;
 use crate::parts::sealed::Sealed;
+use crate::parts::show::Show;
 use core::fmt;
 
 // Each length has an `impl` of its own, because `rt ci` refuses one that a macro of ours writes. A tuple of three

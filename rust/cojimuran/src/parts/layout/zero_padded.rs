@@ -3,10 +3,10 @@
 //! Numbers with leading zeros, up to at least a width.
 
 use crate::parts::formatting::limited::{count_bytes, write_exactly};
-use crate::parts::formatting::show::Show;
 use crate::parts::layout::fill::{insert_fill, write_copies};
 use crate::parts::part::Part;
 use crate::parts::sealed::Sealed;
+use crate::parts::show::Show;
 use core::fmt;
 
 // Returns the length of the sign with which the text begins: 1 for `-` or `+`, and otherwise 0.

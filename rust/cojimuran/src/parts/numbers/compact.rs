@@ -3,7 +3,7 @@
 //! Numbers in any radix, in little code.
 //!
 //! `{}` and `write_pieces` write `Digits`, `PaddedDigits` and `Formatted` by these parts. There the radix is mostly
-//! known only at run time, and the digit pairs of all radices would take 60 KB or more.
+//! known only at run time, and the code of all radices would add 35 KB or more.
 
 use crate::num::limits::is_radix;
 use crate::parts::numbers::padded::MOST_DIGITS;

@@ -2,10 +2,10 @@
 
 //! One number in decimal.
 
-use crate::parts::formatting::show::Show;
 use crate::parts::numbers::formatted::Formatted;
 use crate::parts::part::Part;
 use crate::parts::sealed::Sealed;
+use crate::parts::show::Show;
 use crate::write_integer::ToLexical;
 use crate::write_integer::format::STANDARD;
 

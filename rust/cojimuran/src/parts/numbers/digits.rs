@@ -3,11 +3,11 @@
 //! The digits of an unsigned number in any radix, which is a field of the part or stands in its type.
 
 use crate::num::limits::is_radix;
-use crate::parts::formatting::show::Show;
 use crate::parts::numbers::compact::CompactDigits;
 use crate::parts::numbers::padded::MOST_DIGITS;
 use crate::parts::part::Part;
 use crate::parts::sealed::Sealed;
+use crate::parts::show::Show;
 use crate::write_integer::digit_count::{DigitCount, most_digits};
 use crate::write_integer::radix::Radix;
 use core::fmt;
@@ -94,9 +94,9 @@ impl<T: Radix + DigitCount> Show for Digits<T> {
 /// program has only the code of that radix, wherever the part goes: for example through a function that is not
 /// inlined, or into a [`Joined`](super::super::Joined).
 ///
-/// The radix is from 2 to 36. A Cargo project that writes an `InRadix` with another one does not build (but `cargo
-/// check` does not notice), and in Rattle the part is then not valid. The digits above 9 are `A` to `Z`, and
-/// [`Lower`](super::super::Lower) of the part writes `a` to `z`. A literal needs a type, because an `i32` is signed.
+/// The radix is from 2 to 36. Another one is an error of `cargo build`, though not of `cargo check`. The digits above 9
+/// are `A` to `Z`, and [`Lower`](super::super::Lower) of the part writes `a` to `z`. A literal needs a type, because an
+/// `i32` is signed.
 ///
 /// ```
 /// use cojimuran::{InRadix, Lower, Part};

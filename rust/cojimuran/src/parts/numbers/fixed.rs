@@ -2,11 +2,11 @@
 
 //! Numbers with a fixed number of decimals.
 
-use crate::parts::formatting::show::Show;
 use crate::parts::layout::fill::insert_fill;
 use crate::parts::numbers::sign::Sign;
 use crate::parts::part::Part;
 use crate::parts::sealed::Sealed;
+use crate::parts::show::Show;
 use crate::write_integer::format::STANDARD;
 use crate::write_integer::{NumberFormat, ToLexical, group_digits, sign_len};
 

@@ -2,10 +2,10 @@
 
 //! A number in a format, which has a radix, a sign and groups of digits.
 
-use crate::parts::formatting::show::Show;
 use crate::parts::numbers::compact::CompactFormatted;
 use crate::parts::part::Part;
 use crate::parts::sealed::Sealed;
+use crate::parts::show::Show;
 use crate::write_integer::digit_count::DigitCount;
 use crate::write_integer::{BUFFER_SIZE, NumberFormat, ToLexical, sign_len};
 use core::fmt;

@@ -2,10 +2,10 @@
 
 //! The integer types, which are parts: the text of a number is the number in decimal.
 
-use crate::parts::formatting::show::Show;
 use crate::parts::numbers::decimal::Decimal;
 use crate::parts::part::Part;
 use crate::parts::sealed::Sealed;
+use crate::parts::show::Show;
 
 // Each type has its own `impl`: a generic one would also be one for `&str` and tuples, and `rt ci` refuses one that a
 // macro of ours writes.

@@ -3,11 +3,11 @@
 //! Numbers with leading zeros, up to a fixed width.
 
 use crate::num::limits::is_radix;
-use crate::parts::formatting::show::{Show, write_in_one_piece};
 use crate::parts::layout::fill::write_copies;
 use crate::parts::numbers::compact::CompactDigits;
 use crate::parts::part::Part;
 use crate::parts::sealed::Sealed;
+use crate::parts::show::{Show, write_in_one_piece};
 use crate::write_integer::digit_count::DigitCount;
 use crate::write_integer::padded::{fits_decimal_width, write_padded};
 use crate::write_integer::radix::Radix;

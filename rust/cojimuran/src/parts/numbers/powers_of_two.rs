@@ -2,10 +2,10 @@
 
 //! Unsigned numbers in radix 16 and in radix 2, in the room of their type.
 
-use crate::parts::formatting::show::Show;
 use crate::parts::numbers::padded::PaddedDigits;
 use crate::parts::part::Part;
 use crate::parts::sealed::Sealed;
+use crate::parts::show::Show;
 use crate::write_integer::digit_count::DigitCount;
 use crate::write_integer::radix::{Radix, write_in_constant_radix};
 

@@ -2,10 +2,10 @@
 
 //! Numbers in scientific notation.
 
-use crate::parts::formatting::show::Show;
 use crate::parts::numbers::sign::Sign;
 use crate::parts::part::Part;
 use crate::parts::sealed::Sealed;
+use crate::parts::show::Show;
 use crate::parts::texts::bytes::Bytes;
 use crate::write_integer::ToLexical;
 use crate::write_integer::format::STANDARD;

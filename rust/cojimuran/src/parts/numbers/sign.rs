@@ -3,9 +3,9 @@
 //! The sign of a number, as a part of its own.
 
 use crate::num::num::LexicalInteger;
-use crate::parts::formatting::show::Show;
 use crate::parts::part::Part;
 use crate::parts::sealed::Sealed;
+use crate::parts::show::Show;
 use crate::write_integer::buffer::copy_to_front;
 
 /// The sign of a number: `-` if it is below 0, and otherwise nothing, or a `+` if one is required.

@@ -2,12 +2,12 @@
 
 //! Numbers of units without zeros at the end of their fraction.
 
-use crate::parts::formatting::show::Show;
 use crate::parts::numbers::fixed::{Fixed, LONGEST_FIXED, write_units};
 use crate::parts::numbers::scientific::count_without_zeros;
 use crate::parts::numbers::sign::Sign;
 use crate::parts::part::Part;
 use crate::parts::sealed::Sealed;
+use crate::parts::show::Show;
 use crate::parts::texts::bytes::Bytes;
 use crate::write_integer::ToLexical;
 

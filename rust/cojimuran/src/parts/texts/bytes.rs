@@ -2,9 +2,9 @@
 
 //! Bytes as a part: those of a slice, or a single one.
 
-use crate::parts::formatting::show::Show;
 use crate::parts::part::Part;
 use crate::parts::sealed::Sealed;
+use crate::parts::show::Show;
 use crate::write_integer::buffer::copy_to_front;
 use core::fmt;
 use core::str::from_utf8;

@@ -2,9 +2,9 @@
 
 //! Characters, which are parts: the text of a `char` is its UTF-8.
 
-use crate::parts::formatting::show::Show;
 use crate::parts::part::Part;
 use crate::parts::sealed::Sealed;
+use crate::parts::show::Show;
 
 impl Part for char {
     #[inline(always)]

@@ -2,10 +2,10 @@
 
 //! Bytes in radix 16.
 
-use crate::parts::formatting::show::{MOST_IN_ONE_PIECE, Show, write_in_one_piece};
 use crate::parts::layout::joined::{separator_before, write_next};
 use crate::parts::part::Part;
 use crate::parts::sealed::Sealed;
+use crate::parts::show::{MOST_IN_ONE_PIECE, Show, write_in_one_piece};
 use crate::tables::get_table;
 use core::fmt;
 

@@ -2,9 +2,9 @@
 
 //! Parts in lowercase.
 
-use crate::parts::formatting::show::Show;
 use crate::parts::part::Part;
 use crate::parts::sealed::Sealed;
+use crate::parts::show::Show;
 use core::fmt;
 
 /// A part in lowercase: its text with `A` to `Z` as `a` to `z`, and every other byte unchanged.

@@ -2,9 +2,9 @@
 
 //! Parts that may be absent: the text of `Some(part)` is that of the part, and `None` has no bytes.
 
-use crate::parts::formatting::show::Show;
 use crate::parts::part::Part;
 use crate::parts::sealed::Sealed;
+use crate::parts::show::Show;
 use crate::write_integer::buffer::copy_to_front;
 use core::fmt;
 

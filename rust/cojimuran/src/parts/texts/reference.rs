@@ -2,9 +2,9 @@
 
 //! References to parts, which have the text of the part.
 
-use crate::parts::formatting::show::Show;
 use crate::parts::part::Part;
 use crate::parts::sealed::Sealed;
+use crate::parts::show::Show;
 use core::fmt;
 
 impl<P: Part> Part for &P {

@@ -2,9 +2,9 @@
 
 //! Strings, which are parts: the text of a `&str` is the string.
 
-use crate::parts::formatting::show::Show;
 use crate::parts::part::Part;
 use crate::parts::sealed::Sealed;
+use crate::parts::show::Show;
 use crate::write_integer::buffer::copy_to_front;
 use core::fmt;
 

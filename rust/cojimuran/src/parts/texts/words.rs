@@ -2,9 +2,9 @@
 
 //! The words `true` and `false`, which are the texts of a `bool`.
 
-use crate::parts::formatting::show::Show;
 use crate::parts::part::Part;
 use crate::parts::sealed::Sealed;
+use crate::parts::show::Show;
 
 // Returns `true` or `false`.
 #[inline(always)]

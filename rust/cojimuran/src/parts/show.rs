@@ -1,6 +1,6 @@
-// Made by `strip` from crates/lexical_parts/src/formatting/show.rt. Edit that file, not this one.
+// Made by `strip` from crates/lexical_parts/src/show.rt. Edit that file, not this one.
 
-//! Parts that `{}` can write.
+//! Writing a part to any writer, as `{}` does.
 
 use crate::parts::part::Part;
 use core::fmt;
@@ -9,9 +9,9 @@ use core::fmt;
 pub(crate) const MOST_IN_ONE_PIECE: usize = 256;
 
 /// Adds `write_pieces`, which writes a part to a `String` or any other writer, and lets
-/// [`Shown(part)`](super::super::Shown) be used in a format string.
+/// [`Shown(part)`](super::Shown) be used in a format string.
 ///
-/// All parts of this crate implement it, and so do tuples, columns and [`Joined`](super::super::Joined) of them. Many
+/// All parts of this crate implement it, and so do tuples, columns and [`Joined`](super::Joined) of them. Many
 /// of them, such as `Hex`, also have `Display`, so you can write them in a format string without `Shown`.
 ///
 /// If you implement this trait for a part of your own, the part works in `write_pieces` and in `Shown`, alone and in

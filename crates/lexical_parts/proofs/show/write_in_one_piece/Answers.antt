@@ -1,5 +1,5 @@
 use Rattle.lexical_parts.proofs.OfFormatting.ShownParts.{written_in_one_piece}
-use Rattle.lexical_parts.proofs.formatting.show.write_in_one_piece.Goals as goal
+use Rattle.lexical_parts.proofs.show.write_in_one_piece.Goals as goal
 
 pub returns : goal.returns
 returns g c = λ ok.
