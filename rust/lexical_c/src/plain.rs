@@ -33,8 +33,8 @@ pub fn fitting_format<T: LexicalInteger>(radix: u32, room: usize) -> Option<Numb
     }
 }
 
-/// Returns the same format if the radix is valid and not 10, and a buffer of `room` bytes is enough for each number
-/// that has the highest bit of this one. Otherwise returns `None`.
+/// Returns the format of this radix without a required sign and groups if the radix is valid and not 10, and a buffer
+/// of `room` bytes is enough for each number whose highest bit is that of this number. Otherwise returns `None`.
 #[inline(always)]
 pub fn format_by_bits<T: WideInteger>(value: T, radix: u32, room: usize) -> Option<NumberFormat> {
     if radix == 10 || !is_radix(u64::from(radix)) {
@@ -56,7 +56,7 @@ fn format_in(radix: u32) -> NumberFormat {
     builder.build_strict()
 }
 
-// Sets the bit 32 in each byte of a text.
+// Sets the bit of value 32 in each byte of a text.
 #[inline(always)]
 fn set_bit_in_each(text: &mut [u8]) {
     for byte in text.iter_mut() {
@@ -73,8 +73,8 @@ fn set_bit_in_halves<const SIZE: usize>(text: &mut [u8]) {
     set_bit_in_each(&mut text[start..]);
 }
 
-/// Sets the bit 32 in each byte of a text. Of the bytes of digits and signs only uppercase letters lack this bit, which
-/// is all that distinguishes them from lowercase letters.
+/// Sets the bit of value 32 in each byte of a text. Of the bytes of digits and signs only uppercase letters lack this
+/// bit, which is all that distinguishes them from lowercase letters.
 #[inline(always)]
 pub fn set_lowercase_bit(text: &mut [u8]) {
     match text.len() {
