@@ -1,7 +1,7 @@
 //! Texts to copy: an identifier, a row of CSV, a UUID, an IPv6 address, a line of a dump and a line of a log.
 
 use cojimuran::{
-    Decimal, Digits, Fixed, Hex, HexBytes, Joined, Lower, Padded, PaddedDigits, Part, Show,
+    Digits, Fixed, Hex, HexBytes, Joined, Lower, Padded, PaddedDigits, Part, PushPart, ZeroPadded,
 };
 
 /// An identifier in radix 36 and in lowercase, as in a short link: `rs` for 1000.
@@ -11,8 +11,9 @@ fn identifier(id: u64) -> String {
 
 /// A row of CSV: a name, an amount in cents and some sizes.
 fn csv_row(name: &str, cents: i64, sizes: &[u16]) -> String {
-    let row = (name, ",", Fixed(cents, 2), ",", Joined(sizes, " "), "\n");
-    row.to_str(&mut vec![0; row.room()]).to_owned()
+    let mut row = String::new();
+    row.push_part((name, ",", Fixed(cents, 2), ",", Joined(sizes, " "), "\n"));
+    row
 }
 
 /// A UUID, of which `high` has the first half.
@@ -42,30 +43,28 @@ fn address(groups: [u16; 8]) -> String {
 
 /// A line of a dump: the offset, and sixteen bytes.
 fn dump_line(offset: u32, bytes: &[u8; 16]) -> String {
-    (
+    let line = (
         PaddedDigits(16, offset, 8),
         "  ",
         HexBytes(bytes, " "),
         "\n",
-    )
-        .to_str(&mut [0; 58])
-        .to_owned()
+    );
+    line.to_str(&mut [0; 58]).to_owned()
 }
 
-/// A line of a log, with the time of the day in seconds.
+/// A line of a log, with the time since its start in seconds.
 fn log_line(seconds: u32, level: &str, celsius: Option<i32>) -> String {
+    // There may be more than 99 hours, for which `Padded` would panic.
     let time = (
-        Padded(seconds / 3600, 2),
+        ZeroPadded(seconds / 3600, 2),
         ":",
         Padded(seconds / 60 % 60, 2),
         ":",
         Padded(seconds % 60, 2),
     );
-    let temperature = celsius.map(|celsius| (" ", Decimal(celsius), " °C"));
+    let temperature = celsius.map(|celsius| (" ", celsius, " °C"));
     let mut line = String::new();
-    (time, " [", level, "]", temperature)
-        .write_pieces(&mut line)
-        .unwrap();
+    line.push_part((time, " [", level, "]", temperature));
     line
 }
 
@@ -82,5 +81,6 @@ fn main() {
     );
     assert_eq!(dump_line(16, b"0123456789abcdef").len(), 58);
     assert_eq!(log_line(3661, "info", Some(-4)), "01:01:01 [info] -4 °C");
+    assert_eq!(log_line(360_000, "info", None), "100:00:00 [info]");
     print!("{}", log_line(3661, "info", None) + "\n");
 }

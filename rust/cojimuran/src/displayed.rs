@@ -19,9 +19,10 @@ use core::fmt::{self, Display, Write};
 /// ```
 ///
 /// The value is formatted once to write it, and once more each time that a call asks for its [`room`](Part::room) or
-/// its length: `push_part` to a `Vec` and `{}` with a width ask once, `to_str` only if the buffer is shorter than the
-/// other parts may need, `try_to_str` once or twice, and `write_part`, `write_pieces`, `{}` and `push_part` to a
-/// `String` at least once for each column or `ZeroPadded` around the value. It must write the same text each time.
+/// its length: `push_part` to a `Vec` and `{}` with a width or a precision ask once, `to_str` only if the buffer is
+/// shorter than the other parts may need, `try_to_str` once or twice, and `write_part`, `write_pieces`, `{}` and
+/// `push_part` to a `String` at least once for each column or `ZeroPadded` around the value. It must write the same
+/// text each time.
 ///
 /// A `u128` has at most 39 bytes and an `i128` at most 40. Other texts can be long: `{}` of `1e300` has 301 bytes. So
 /// take [`room`](Part::room) bytes, a `String`, or a format with a limit such as `{:.3e}`.
