@@ -24,7 +24,7 @@ pub fn write_decimal<T: CInteger>(value: T, buffer: &mut [u8]) -> usize
     }
 }
 
-// Does what `write_decimal` does, by an array. It is cold, so `write_decimal` does not save registers for it.
+// Does what `write_decimal` does, by an array.
 #[cold]
 fn write_decimal_by_array<T: ToLexicalWithOptions>(value: T, buffer: &mut [u8]) -> usize
     ensures { WritesOrRefuses (T.number value) DECIMAL buffer.old buffer.new result }

@@ -13,7 +13,6 @@ use lexical_write_integer::{BUFFER_SIZE, Options, ToLexicalWithOptions, WriteOpt
 
 /// Writes the number to the start of the buffer, and returns the length of its text. Returns 0 and
 /// leaves the buffer unchanged if the format is invalid or the text does not fit.
-// It is cold, so that the tests before a call of it are separate branches, each of which is one instruction fewer.
 #[cold]
 pub fn write_general<T: WideInteger>(value: T, format: &CFormat, buffer: &mut [u8]) -> usize
     ensures { WritesOrRefuses (T.number value) format.now buffer.old buffer.new result }

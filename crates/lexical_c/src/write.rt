@@ -23,8 +23,7 @@ fn write<T: CInteger>(value: T, format: &CFormat, buffer: &mut [u8]) -> usize
     }
 }
 
-// Does what `write` does in any other format. It is cold: otherwise a call in uppercase
-// would save registers that only this needs.
+// Does what `write` does in any other format.
 #[cold]
 fn write_other<T: CInteger>(value: T, format: &CFormat, buffer: &mut [u8]) -> usize
     requires { HasOnlyRadixAndCase format.now → format.now.lowercase ≢ 0 }
@@ -68,8 +67,7 @@ fn write_caseless_in_radix<T: CInteger>(value: T, format: &CFormat, buffer: &mut
     }
 }
 
-// Does what `write` does in a format that has only a radix and lowercase. `write_in_case` would test the case once
-// more, which takes five instructions of some sixty.
+// Does what `write` does in a format that has only a radix and lowercase. `write_in_case` would test the case again.
 fn write_in_lowercase<T: CInteger>(value: T, format: &CFormat, buffer: &mut [u8]) -> usize
     requires only { HasOnlyRadixAndCase format.now }
     requires lowercase { format.now.lowercase ≢ 0 }

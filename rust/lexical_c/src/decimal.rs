@@ -17,7 +17,7 @@ pub fn write_decimal<T: CInteger>(value: T, buffer: &mut [u8]) -> usize {
     }
 }
 
-// Does what `write_decimal` does, by an array. It is cold, so `write_decimal` does not save registers for it.
+// Does what `write_decimal` does, by an array.
 #[cold]
 #[inline]
 fn write_decimal_by_array<T: ToLexicalWithOptions>(value: T, buffer: &mut [u8]) -> usize {

@@ -23,7 +23,7 @@ pub fn has_only_radix_and_case(format: &CFormat) -> bool {
 
 /// Returns the format of this radix without a required sign and groups if the radix is valid and not 10, and a buffer
 /// of `room` bytes is enough for every number of the type in each radix. Otherwise returns `None`.
-// The room is tested first: so each test stays a branch of its own, which is one instruction fewer.
+// The room is tested first, because LLVM then makes a branch of each test.
 #[inline(always)]
 pub fn fitting_format<T: LexicalInteger>(radix: u32, room: usize) -> Option<NumberFormat> {
     if T::BITS + usize::from(T::IS_SIGNED) <= room && radix != 10 && is_radix(u64::from(radix)) {

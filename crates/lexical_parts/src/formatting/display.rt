@@ -91,8 +91,7 @@ fn fill_before_number<W: fmt::Write>(f: &fmt::Formatter<W>, fill: usize) -> usiz
     }
 }
 
-// Writes a text as `pad_number` does, in a format with a width or another option. It is cold:
-// otherwise a number in `{}` would save registers that only this needs.
+// Writes a text as `pad_number` does, in a format with a width or another option.
 #[cold]
 fn pad_with_options<W: fmt::Write>(
     f: &mut fmt::Formatter<W>,

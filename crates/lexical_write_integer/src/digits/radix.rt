@@ -105,7 +105,6 @@ fn write_by_table<T: UnsignedInteger, const R: u32>(
 }
 
 // Writes a number as `write_by_table` does, by a call: its code is too long for each caller.
-// It is cold: otherwise each call for a shorter number would save registers that only this needs.
 #[cold]
 fn write_by_table_out_of_line<T: UnsignedInteger, const R: u32>(
     value: T,
@@ -144,8 +143,7 @@ fn write_with_short_inline<T: UnsignedInteger, const R: u32>(
 }
 
 // Writes the digits by the code of the radix, which names the table. In a power of 2 this code is short enough to be in
-// each caller. The function is cold: otherwise LLVM would join its choice of a radix with the caller's test for radix
-// 10.
+// each caller.
 #[cold]
 pub(crate) fn write_in_radix<T: UnsignedInteger>(
     value: T,

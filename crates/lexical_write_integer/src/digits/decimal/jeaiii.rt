@@ -48,7 +48,7 @@ fn write_32(n: u32, buffer: &mut [u8], turns: &mut Turns) -> usize
 }
 
 // Writes the digits of a number of more than ten digits: the last ten by division, after the digits before them.
-#[cold] // Otherwise each call would save registers that only this needs.
+#[cold]
 fn write_more_than_ten(n: u64, buffer: &mut [u8], turns: &mut Turns) -> usize
     requires long { 10 ^ 10 ≤ n }
     requires room { digit_count 10 n ≤ length buffer.old }

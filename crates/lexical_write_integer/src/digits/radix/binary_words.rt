@@ -49,7 +49,7 @@ fn remove_eight(value: u64, turns: &mut Turns) -> u64
 
 // Writes a number of more than eight binary digits, from the last: eight per iteration while more than 16 are left. Of
 // those, the first are written with zeros after them, eight characters in total, and then the last eight.
-#[cold] // Otherwise each call would save registers that only this needs.
+#[cold]
 pub(super) fn write_binary(value: u64, buffer: &mut [u8], turns: &mut Turns) -> usize
     requires long { 256 ≤ value }
     requires room { digit_count 2 value ≤ length buffer.old }

@@ -10,7 +10,7 @@ ghost use Rattle.lexical_write_integer.specs.LoopTurns.{count_notes, loop_notes,
 
 use super::steps::{
     count_one_or_two_by_division, fourth_power, last_four, note_up_to_four, remove_four,
-    remove_two, write_pair_by_bytes, write_four, write_pair_by_word,
+    remove_two, write_four, write_pair_by_bytes, write_pair_by_word,
 };
 use crate::digits::count::{DigitCount, fast_log2, has_fast_count};
 use crate::digits::pairs::RadixTable;
@@ -59,7 +59,7 @@ fn write_three_or_four<const R: u32>(
     count
 }
 
-// Returns how many digits a number has that is not 0. Its logarithm is one instruction, which that of 0 is not.
+// Returns how many digits a number has that is not 0. Its logarithm is faster than that of a number that may be 0.
 pub(super) fn count_of_nonzero(value: u64, radix: u32) -> usize
     requires radix { IsRadix radix }
     requires some { 0 < value }
@@ -134,9 +134,8 @@ fn write_up_to_four<const R: u32>(
 }
 
 // Writes a number of three digits or more. First it counts them, and then it writes four per iteration while more than
-// four are left. At last it writes the first one to four digits. In a power of 2 these are found before the loop, so
-// that the number takes no register in it.
-#[cold] // Otherwise each call would save registers that only this needs.
+// four are left. At last it writes the first one to four digits. In a power of 2 these are found before the loop.
+#[cold]
 pub(super) fn count_then_write<const R: u32>(
     value: u64,
     table: RadixTable<'_, R>,

@@ -9,8 +9,8 @@ ghost use Rattle.lexical_write_integer.specs.DigitCount.{digit_count};
 ghost use Rattle.lexical_write_integer.specs.LoopTurns.{loop_notes, slow_notes};
 
 use super::steps::{
-    count_one_or_two_by_division, fourth_power, last_four, remove_four, remove_two,
-    write_pair_by_bytes, write_four,
+    count_one_or_two_by_division, fourth_power, last_four, remove_four, remove_two, write_four,
+    write_pair_by_bytes,
 };
 use crate::digits::pairs::RadixTable;
 use crate::turns::Turns;

@@ -71,8 +71,7 @@ fn fill_before_number(f: &fmt::Formatter<'_>, fill: usize) -> usize {
     }
 }
 
-// Writes a text as `pad_number` does, in a format with a width or another option. It is cold:
-// otherwise a number in `{}` would save registers that only this needs.
+// Writes a text as `pad_number` does, in a format with a width or another option.
 #[cold]
 #[inline]
 fn pad_with_options(

@@ -38,7 +38,7 @@ fn write_three_or_four<const R: u32>(
     count
 }
 
-// Returns how many digits a number has that is not 0. Its logarithm is one instruction, which that of 0 is not.
+// Returns how many digits a number has that is not 0. Its logarithm is faster than that of a number that may be 0.
 #[inline(always)]
 #[track_caller]
 pub(super) fn count_of_nonzero(value: u64, radix: u32) -> usize {
@@ -98,8 +98,7 @@ fn write_up_to_four<const R: u32>(
 }
 
 // Writes a number of three digits or more. First it counts them, and then it writes four per iteration while more than
-// four are left. At last it writes the first one to four digits. In a power of 2 these are found before the loop, so
-// that the number takes no register in it.
+// four are left. At last it writes the first one to four digits. In a power of 2 these are found before the loop.
 #[inline(always)]
 #[track_caller]
 pub(super) fn count_then_write<const R: u32>(
