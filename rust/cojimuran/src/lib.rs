@@ -9,7 +9,7 @@
 //!
 //! # What you call
 //!
-//! A *part* is anything that this crate can write, such as a number, a `&str` or a tuple of 2 to 12 parts.
+//! A *part* is a value with the trait [`Part`], such as a number, a `&str` or a tuple of 2 to 12 parts.
 //!
 //! | you want | call |
 //! |---|---|
@@ -23,10 +23,9 @@
 //! | a part in a file, `stdout` or any other `io::Write` | `file.write_part(part)?` of the trait `WritePart` |
 //!
 //! An array must have [`part.room()`](Part::room) bytes, otherwise `to_str` and `to_text`
-//! [panic](conditions#what-happens-otherwise). (A [`Displayed`] counts as 0 bytes here.) [A
-//! table](conditions#how-long-a-buffer-must-be) has the room of each part. Write a text of unknown length with
-//! `push_part`, `write_part` or `write_pieces`, which need no array. [`BUFFER_SIZE`] bytes are enough for one number in
-//! any format.
+//! [panic](conditions#what-happens-otherwise). [A table](conditions#how-long-a-buffer-must-be) has the room of each
+//! part. Write a text of unknown length with `push_part`, `write_part` or `write_pieces`, which need no array.
+//! [`BUFFER_SIZE`] bytes are enough for one number in any format.
 //!
 //! A `char`, a `bool`, an `Option` of a part, a reference to a part and a reference to a `String` are also parts. This
 //! crate has these parts:
@@ -68,8 +67,8 @@
 //!
 //! # What allocates
 //!
-//! Only `push_part` allocates, which grows its `String` or `Vec`, and the error of a `write_part` that is refused.
-//! `write_pieces` allocates if its writer does, and a [`Displayed`] if its `Display` does.
+//! Only `push_part` allocates, which grows its `String` or `Vec`, and `write_part` for the error if it refuses a part. A
+//! writer of your own may allocate too, and so may the `Display` of a value in a [`Displayed`].
 //!
 //! # Without `std`
 //!
@@ -111,9 +110,9 @@
 //!   [`GroupedFixed`], [`TrimmedFixed`], [`Padded`] and [`PaddedDigits`] take the width, the fill, the `+` and the `0`
 //!   of an integer. `#` and a precision have no effect on them.
 //! - A [`Displayed`] passes all options to its value.
-//! - [`Shown`], which is not a part, and all parts of this crate, such as [`Lower`] and [`ZeroPadded`], take
-//!   the width, the fill and the precision of a `&str`. Integers, strings and references keep the options that they
-//!   have in the standard library.
+//! - [`Shown`], which is not a part, and all other parts of this crate, such as [`Lower`] and [`ZeroPadded`], take the
+//!   width, the fill and the precision of a `&str`.
+//! - Integers, strings and references keep the options that they have in the standard library.
 //!
 //! ```
 //! use cojimuran::{Hex, Lower, Shown};
