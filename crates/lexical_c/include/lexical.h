@@ -6,7 +6,7 @@
  *   lexical_write(value, format, buffer, size)  writes a number in a format
  *   lexical_length(value, format)               returns the length of such a text
  *   lexical_buffer_size_T(format)               returns a buffer size for every number of a type
- *   lexical_check_format(format)                returns 0, or which field is invalid
+ *   lexical_check_format(format)                returns 0, or a code for an invalid field
  *   lexical_pad(count, width, buffer, size)     inserts zeros after the sign of a text
  *   lexical_terminate(count, buffer, size)      writes a NUL after a text
  *   lexical_version()                           returns the version of the library
@@ -39,10 +39,10 @@
  * leading zeros, but lexical_pad can add them. If the format has groups, its mark is
  * written between groups of digits.
  *
- * Format. `format` must point to a struct lexical_format whose fields are initialized, and
- * so must not be NULL. A call only reads it. Invalid values of its fields are safe:
- * lexical_check_format names the first invalid field, and every other function that takes
- * a format returns 0.
+ * Format. `format` must point to an aligned struct lexical_format whose fields are
+ * initialized, and so must not be NULL. A call only reads it. Invalid values of its fields
+ * are safe: lexical_check_format names the first invalid field, and every other function
+ * that takes a format returns 0.
  *
  * Buffer. `buffer` points to `size` bytes that the call may write, and may be NULL if the
  * size is 0. The buffer must not overlap the format, and during the call no other thread
@@ -51,9 +51,9 @@
  * Bytes after the text keep their values.
  *
  * Size. Compute it as a size_t. A size above PTRDIFF_MAX counts as 0, because no buffer is
- * so large: it is a subtraction that wrapped around, such as `size - 2` for a size of 1. If
- * an unsigned int wraps around on a 64-bit target, the result is not above PTRDIFF_MAX, and
- * the call may write past the buffer.
+ * so large: it can only be a subtraction that wrapped around, such as `size - 2` for a size
+ * of 1. If an unsigned int wraps around on a 64-bit target, the result is not above
+ * PTRDIFF_MAX, and the call may write past the buffer.
  *
  * Size of the buffer. LEXICAL_BUFFER_SIZE bytes are enough for every number of every
  * type in every format. A terminating NUL needs one byte more.
@@ -61,8 +61,8 @@
  * Errors. A call that writes returns the length of the text, without a NUL. A text is never
  * empty, so 0 means an error: the format is invalid or the text does not fit. The buffer is
  * then unchanged, except by lexical_terminate, which makes it an empty string, unless
- * `size` is or counts as 0. To find the cause, call lexical_check_format(format). If it returns 0, the
- * buffer was too short. No call changes errno.
+ * `size` is 0 or above PTRDIFF_MAX. To find the cause, call lexical_check_format(format).
+ * If it returns 0, the buffer was too short. No call changes errno.
  *
  * Threads and signals. The functions have no state and allocate nothing. So you can call
  * them in any thread and in any signal handler, if during the call nothing else uses the
@@ -466,9 +466,9 @@ size_t lexical_pad(size_t count, size_t width, char *buffer, size_t size) LEXICA
  *     size    the size of the buffer in bytes, with a byte for the NUL
  *
  * Returns `count`. Returns 0 if `count` is 0, or if `size` is not greater than `count`, so
- * that the NUL does not fit. In both cases, unless `size` counts as 0, the buffer becomes an
- * empty string, and a text in it is lost. So a buffer of at least one byte is a string after
- * every call, and you may ignore the result if an empty string is acceptable.
+ * that the NUL does not fit. In both cases the buffer becomes an empty string, unless `size`
+ * is 0 or above PTRDIFF_MAX, and a text in it is lost. So a buffer of at least one byte is a
+ * string after every call, and you may ignore the result if an empty string is acceptable.
  */
 LEXICAL_HAS((nothrow)) LEXICAL_ACCESS((write_only, 2, 3))
 size_t lexical_terminate(size_t count, char *buffer, size_t size) LEXICAL_NOEXCEPT;
