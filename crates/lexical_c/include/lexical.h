@@ -39,20 +39,21 @@
  * leading zeros, but lexical_pad can add them. If the format has groups, its mark is
  * written between groups of digits.
  *
- * Format. `format` must point to an aligned struct lexical_format whose fields are
- * initialized, and so must not be NULL. A call only reads it. Invalid values of its fields
- * are safe: lexical_check_format names the first invalid field, and every other function
- * that takes a format returns 0.
+ * Format. `format` must not be NULL. It must point to an aligned struct lexical_format with
+ * initialized fields. A call only reads it. Invalid values of its fields are safe:
+ * lexical_check_format names the first invalid field, and every other function that takes
+ * a format returns 0.
  *
  * Buffer. `buffer` points to `size` bytes that the call may write, and may be NULL if the
  * size is 0. The buffer must not overlap the format, and during the call no other thread
  * may use the buffer. It need not be initialized, except for the text that you pass to
  * lexical_pad. The call writes nothing outside the buffer, and keeps no pointer to it.
- * Bytes after the text keep their values.
+ * Bytes after the text keep their values, except the one to which lexical_terminate writes
+ * the NUL.
  *
  * Size. Compute it as a size_t. A size above PTRDIFF_MAX counts as 0, because no buffer is
- * so large: it can only be a subtraction that wrapped around, such as `size - 2` for a size
- * of 1. If an unsigned int wraps around on a 64-bit target, the result is not above
+ * so large: it is a negative result that was converted to size_t, such as `size - 2` for a
+ * size of 1. If an unsigned int wraps around on a 64-bit target, the result is not above
  * PTRDIFF_MAX, and the call may write past the buffer.
  *
  * Size of the buffer. LEXICAL_BUFFER_SIZE bytes are enough for every number of every

@@ -14,16 +14,17 @@
 //! | you want | call |
 //! |---|---|
 //! | one decimal number as a `&str` | [`Buffer::new().format(number)`](Buffer::format) |
-//! | a part, such as a tuple, at the end of a `String` or a `Vec<u8>` | `text.push_part(part)` of the trait `PushPart` |
+//! | a part, such as a tuple, at the end of a `String` or a `Vec<u8>` | `text.push_part(part)` of the trait [`PushPart`] |
 //! | a part in any other `fmt::Write`, or with an error in place of a panic | [`part.write_pieces(&mut out)?`](Show::write_pieces) |
 //! | a part in an array, as a `&str` | [`part.to_str(&mut buffer)`](Part::to_str) |
 //! | a part in an array, as bytes | [`part.to_text(&mut buffer)`](Part::to_text) |
 //! | a part in an array that may be too short | [`part.try_to_str(&mut buffer)`](Part::try_to_str) |
 //! | a part in a format string | [`Shown(part)`](Shown) |
-//! | a part in a file, `stdout` or any other `io::Write` | `file.write_part(part)?` of the trait `WritePart` |
+//! | a part in a file, `stdout` or any other `io::Write` | `file.write_part(part)?` of the trait [`WritePart`] |
 //!
-//! An array must have [`part.room()`](Part::room) bytes, otherwise `to_str` and `to_text`
-//! [panic](conditions#what-happens-otherwise). [A table](conditions#how-long-a-buffer-must-be) has the room of each
+//! An array must have [`part.room()`](Part::room) bytes. For a shorter one `to_str` and `to_text`
+//! [panic](conditions#what-happens-otherwise). (With a [`Displayed`] they panic only if the text does not fit, or if a
+//! number after it does not have its whole room.) [A table](conditions#how-long-a-buffer-must-be) has the room of each
 //! part. Write a text of unknown length with `push_part`, `write_part` or `write_pieces`, which need no array.
 //! [`BUFFER_SIZE`] bytes are enough for one number in any format.
 //!
@@ -33,7 +34,7 @@
 //! | part | what it writes |
 //! |---|---|
 //! | [`Digits`], [`Hex`], [`FullHex`], [`Binary`] | an unsigned number in a radix; [`Lower`] of it is in lowercase |
-//! | [`InRadix`] | the same as `Digits`, with the radix in the type, so that less code is needed |
+//! | [`InRadix`] | the same as `Digits`, with the radix in the type, so your program has the code of one radix only |
 //! | [`Formatted`] | a number in a [`NumberFormat`], which has a radix, groups of digits or a `+` |
 //! | [`Fixed`], [`GroupedFixed`], [`TrimmedFixed`] | an amount, such as `-19.95` |
 //! | [`Padded`], [`PaddedDigits`], [`ZeroPadded`] | leading zeros, as in `07:05` |
@@ -50,7 +51,7 @@
 //!
 //! | purpose | items |
 //! |---|---|
-//! | to move from the crate `lexical-write-integer`, with its names | [`ToLexical`] writes bytes in decimal, and [`ToLexicalWithOptions`] in a [`NumberFormat`]; [`Options`] has no fields; the modules [`compact`], [`decimal`], [`padded`] and [`radix`] write digits without a sign |
+//! | to move from the crate `lexical-write-integer`, with its names | [`ToLexical`] writes bytes in decimal, and [`ToLexicalWithOptions`] in a [`NumberFormat`]; the modules [`compact`], [`decimal`], [`padded`] and [`radix`] write digits without a sign |
 //! | to write into a buffer at a place of your own | [`write_field`] and [`write_with_length`] for a header, [`padded::write_padded`] for a number over a whole buffer, [`compact::Compact`] for digits in little code, [`group_digits`], [`write_sign`] and [`sign_len`] for a writer of your own |
 //!
 //! These pages have the details: [when calls panic, and how long a buffer must be](conditions), [what they
@@ -62,8 +63,8 @@
 //! The sources are written in Rattle, a dialect of Rust with contracts, and each of their functions is proved: if its
 //! [conditions] hold, a call does not panic, and writes exactly the bytes that its contract specifies. The prover is
 //! not public. A program makes this Rust code from the sources, and the Rust code is tested, not proved. That `{}` and
-//! `write_pieces` succeed is also only tested. `push_part`, `write_part`, [`Displayed`],
-//! references to a `String`, and this page are written by hand.
+//! `write_pieces` of a valid part return `Ok`, and that `to_str` leaves the bytes after the text unchanged, is also only
+//! tested. `push_part`, `write_part`, [`Displayed`], references to a `String`, and this page are written by hand.
 //!
 //! # What allocates
 //!

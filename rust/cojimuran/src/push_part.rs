@@ -38,20 +38,20 @@ use alloc::vec::Vec;
 /// assert_eq!(squares, "1;4;9;");
 /// ```
 pub trait PushPart: sealed::Sealed {
-    /// Appends the text of a part. The part must be valid, and for a `String` its text must be UTF-8, as
-    /// [`to_str`](crate::Part::to_str) says.
+    /// Appends the text of a part. The part must be valid. For a `String` each [`Bytes`](crate::Bytes) in it must be
+    /// UTF-8, and each [`Byte`](crate::Byte) and fill byte below 128.
     ///
-    /// If the text could not exceed 256 bytes even with the longest numbers of its types, it is written in one piece,
-    /// and the `String` or `Vec` grows by its length. A longer one goes to a `String` in pieces, as by
+    /// If the longest text of such a part has at most 256 bytes, the text is written in one piece, and the `String` or
+    /// `Vec` grows by its length. Otherwise it goes to a `String` in pieces, as by
     /// [`write_pieces`](Show::write_pieces), and for a `Vec` its whole [`room`](crate::Part::room) may be reserved. A
     /// `String` also gets a text in pieces if a [`Displayed`](crate::Displayed), a reference to a `String` or a part of
     /// your own is in it.
     ///
     /// # Panics
     ///
-    /// If the part is not valid, or if the text for a `String` is not UTF-8, or if the vector would reserve more than
-    /// `isize::MAX` bytes, or if a `Display` or a part of your own returns an error. A `String` is then unchanged, and
-    /// a `Vec` may have some of the text and zeros at its end. If there is not enough memory, the process aborts, as it
+    /// If the part is not valid, or has bytes for a `String` that are not UTF-8, and if a `Display` or a part of your
+    /// own returns an error, or a `Vec` would reserve more than `isize::MAX` bytes. A `String` is then unchanged, and a
+    /// `Vec` may have some of the text and zeros at its end. If there is not enough memory, the process aborts, as it
     /// does for `Vec::push`.
     #[track_caller]
     fn push_part<P: Show>(&mut self, part: P);
@@ -70,7 +70,7 @@ pub(crate) fn why_refused<P: Show>(part: P) -> &'static str {
     if part.is_showable() {
         "a `Display` or a part of your own returned an error (above 256 bytes a part needs `write_pieces`)"
     } else {
-        "the part is not valid, or the text is not UTF-8"
+        "the part is not valid, or has bytes that are not UTF-8"
     }
 }
 

@@ -22,16 +22,16 @@ use std::io::{Error, ErrorKind, Result, Write};
 /// # }
 /// ```
 pub trait WritePart: Write {
-    /// Writes the text of a part. The part must be valid, and its text must be UTF-8, as
-    /// [`to_str`](crate::Part::to_str) says.
+    /// Writes the text of a part. The part must be valid, each [`Bytes`](crate::Bytes) in it must be UTF-8, and each
+    /// [`Byte`](crate::Byte) and fill byte below 128.
     ///
     /// A text of at most 256 bytes is written by one call of `write_all`. For many texts put a file or a socket into a
     /// `BufWriter`, as for every other `io::Write`.
     ///
     /// # Errors
     ///
-    /// Returns the error of the writer. If the part is not valid, or its text is not UTF-8, or a `Display` or a part of
-    /// your own returns an error, returns an error of the kind `InvalidInput`. The writer then has nothing of a text of
+    /// Returns the error of the writer. If the part is not valid, or has bytes that are not UTF-8, or a `Display` or a
+    /// part of your own returns an error, returns an error of the kind `InvalidInput`. The writer then has nothing of a text of
     /// at most 256 bytes, and may have the start of a longer one.
     fn write_part<P: Show>(&mut self, part: P) -> Result<()>;
 }

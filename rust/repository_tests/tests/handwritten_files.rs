@@ -115,9 +115,9 @@ fn files() {
 fn parts_that_are_not_written_to_a_file() {
     let mut file = Vec::new();
     for (result, message) in [
-        (file.write_part(Padded(123u8, 2)), "the part is not valid, or the text is not UTF-8"),
-        (file.write_part(("no", Padded(123u8, 2))), "the part is not valid, or the text is not UTF-8"),
-        (file.write_part(Bytes(&[200])), "the part is not valid, or the text is not UTF-8"),
+        (file.write_part(Padded(123u8, 2)), "the part is not valid, or has bytes that are not UTF-8"),
+        (file.write_part(("no", Padded(123u8, 2))), "the part is not valid, or has bytes that are not UTF-8"),
+        (file.write_part(Bytes(&[200])), "the part is not valid, or has bytes that are not UTF-8"),
         (file.write_part(Displayed(&Never)), "a `Display` or a part of your own returned an error"),
     ] {
         let error = result.unwrap_err();

@@ -92,8 +92,8 @@ fn parts() {
             PaddedDigits(16, 256u32, 2).to_text(buffer), write_with_length(Padded(12u8, 1), 10, 1, 0, buffer),
             write_field(Padded(12u8, 1), 0, 1, buffer),
             Vec::new().push_part((1u8, Padded(10u8, 1)));
-        "the text is not UTF-8": not_utf8.to_str(buffer), not_utf8.try_to_str(buffer),
-            String::new().push_part(not_utf8);
+        "the text is not UTF-8": not_utf8.to_str(buffer), not_utf8.try_to_str(buffer);
+        "has bytes that are not UTF-8": String::new().push_part(not_utf8);
         "the part is not valid": String::new().push_part(Digits(37, 7u8));
         "returned an error": String::new().push_part(Displayed(&Never));
         "capacity overflow": vec![1].push_part(Left("", usize::MAX, b' '));
