@@ -24,8 +24,11 @@ passes_checked() {
   runs_with "$CC" '-std=c99 -O1' "$crate/tests/library.c" || stop 'library.c'
 }
 
-# Whether archive refuses flags of rustc that it cannot build with, before a linker complains of what it has made.
+# Whether archive refuses flags of rustc that it cannot build with, before a linker complains of what it has made. And
+# if there is no rustc, it says that it needs one.
 refuses_flags() {
+  fails env RUSTC=none "$copy/rust/lexical_c/archive" --out "$work/none" 2> "$work/said" || stop 'no rustc is refused'
+  grep 'it needs rustc 1.85' "$work/said" || stop 'what it needs'
   echo -Clinker-plugin-lto > "$work/flags"
   for RUSTFLAGS in -Clto=no '-g -C lto=off' '-C	lto=thin' -Copt-level=0 '-C opt_level=0' --codegen=panic=unwind \
     -Clinker-plugin-lto "@$work/flags"; do
