@@ -101,12 +101,14 @@ fn show_progress(line: &str) {
 /// The columns of the times, as README.md says.
 const COLUMNS: &str = "| text | numbers | to | here, ns | std, ns | ratio |";
 
+/// Prints the table of times, and then the largest ratio of each text to each target.
 fn print_times(rows: &[Row], count: usize) {
     println!("{COLUMNS}\n|---|---|---|---|---|---|");
-    for row in rows {
+    let mut largest = vec![[0.0_f64; TARGETS.len()]; rows.len()];
+    for (row, largest) in rows.iter().zip(&mut largest) {
         for (distribution, name) in DISTRIBUTIONS {
             let numbers = numbers(distribution);
-            for (target, to) in TARGETS {
+            for ((target, to), largest) in TARGETS.into_iter().zip(&mut *largest) {
                 show_progress(&format!("measuring {} to {to}", row.name));
                 let passes: Vec<Pass> = std::iter::once(row.ours).chain(row.std).collect();
                 let lengths: Vec<usize> = passes.iter().map(|pass| pass(target, &numbers)).collect();
@@ -114,13 +116,20 @@ fn print_times(rows: &[Row], count: usize) {
                 assert!(numbers.iter().all(|number| (row.is_same)(*number)), "another text than that of std");
                 let mut found = measure(&passes, target, &numbers, count).into_iter().map(text_of);
                 let ours = found.next().unwrap_or_default();
-                let (std, ratio) = found
-                    .next()
-                    .map_or(("-".to_owned(), "-".to_owned()), |(best, text)| (text, format!("{:.2}", ours.0 / best)));
+                let (std, ratio) = found.next().map_or(("-".to_owned(), "-".to_owned()), |(best, text)| {
+                    *largest = largest.max(ours.0 / best);
+                    (text, format!("{:.2}", ours.0 / best))
+                });
                 show_progress("");
                 println!("| {} | {name} | {to} | {} | {std} | {ratio} |", row.name, ours.1);
             }
         }
+    }
+    let targets: String = TARGETS.iter().map(|(_, to)| format!(" {to} |")).collect();
+    println!("\n| the largest ratio |{targets}\n|---|{}", "---|".repeat(TARGETS.len()));
+    for (row, largest) in rows.iter().zip(largest).filter(|(row, _)| row.std.is_some()) {
+        let ratios: String = largest.iter().map(|ratio| format!(" {ratio:.1} |")).collect();
+        println!("| {} |{ratios}", row.name);
     }
 }
 
